@@ -28,7 +28,7 @@ pub record Record : Type 0 where
   pub parameter : ℕ
   pub values : List ℤ
 
--- a record within the limits: "code 5 [not] without kind 1"; "Rice with k from 0 to 31"; a parameter "is 0 in the record" of a code
+-- a record within the limits: code 5 is for "instants only"; "Rice with k from 0 to 31"; a parameter "is 0 in the record" of a code
 -- that has none; "a list at most 4,096 values", each in its range, instants never falling
 pub record Valid (r : Record) : Type 0 where
   pub kind : r .code ≡ Interpolative → r .kind ≡ Instants

@@ -5,12 +5,12 @@ use mathlib.Core.List.{List, _∷_, _++_}
 use Prim.Native.Nat.{ℕ, zero, suc, _+_, _-_, _*_, _≤_, _<_}
 use lib.IntN.{ℤ, pos}
 use lib.ListN.{length}
-use Rattle.layout.specs.Bits.{zeros, bitsOf, put}
+use Rattle.layout.specs.Bits.{zeros, Bytes, bitsOf, put}
 use Rattle.format.specs.Limits.{longestList, largestParameter}
 use Rattle.format.specs.Kinds.{Kind, Instants, Family, InRange, NotBelow, Fits, ListOf}
 use Rattle.format.specs.Records.{Code, Gamma, Delta, Rice, VariableByte, Interpolative, codeNumber, Record, anyRecord}
 use Rattle.format.specs.Streams.{endMark, toByteEnd}
-use Rattle.format.specs.Answers.{Outcome, refuses, gives, Place, Told}
+use Rattle.format.specs.Answers.{Outcome, refuses, gives, Start, Told}
 
 -- "A parameter given for a code that has none is ignored; it is 0 in the record and when told."
 abbrev pub parameterOf : Code → ℕ → ℕ
@@ -37,7 +37,7 @@ pub data Faulty (t : Kind) : ℤ → List ℤ → ℕ → ℕ → Type 0 where
 -- "5: fewer bits left than are to be written"; else these bits are written, and no other: "and tells the bit after them"
 pub data Puts (bytes : List ℕ) (start : ℕ) (image : List Bool) : Outcome ℕ → List ℕ → Type 0 where
   full : 8 * length bytes - start < length image → Puts bytes start image (refuses 5 0) bytes
-  done : {after : List ℕ} → length image ≤ 8 * length bytes - start → bitsOf after ≡ put (bitsOf bytes) start image → Puts bytes start image (gives (start + length image)) after
+  done : {after : List ℕ} → length image ≤ 8 * length bytes - start → Bytes after → bitsOf after ≡ put (bitsOf bytes) start image → Puts bytes start image (gives (start + length image)) after
 
 abbrev pub written : Code → Kind → ℕ → List ℤ → List Bool
 written c t parameter values = anyRecord .bits (record { code = c; kind = t; parameter = parameterOf c parameter; values = values })
@@ -50,12 +50,15 @@ pub data WritesList (bytes : List ℕ) (start : ℕ) (c : Code) (t : Kind) (para
       → WritesList bytes start c t parameter values x after
 
 pub data Writes (bytes : List ℕ) (start : ℕ) (f : Family) (code parameter kind : ℕ) (values : List ℤ) : Outcome ℕ → List ℕ → Type 0 where
-  outside : (Place bytes start → ⊥) → Writes bytes start f code parameter kind values (refuses 12 0) bytes
-  unknown : Place bytes start → ((c : Code) (t : Kind) → Chosen f code parameter kind c t → ⊥) → Writes bytes start f code parameter kind values (refuses 4 0) bytes
-  judging : {c : Code} {t : Kind} {x : Outcome ℕ} {after : List ℕ} → Place bytes start → Chosen f code parameter kind c t → WritesList bytes start c t parameter values x after
+  outside : (Start bytes start → ⊥) → Writes bytes start f code parameter kind values (refuses 12 0) bytes
+  unknown : Start bytes start → ((c : Code) (t : Kind) → Chosen f code parameter kind c t → ⊥) → Writes bytes start f code parameter kind values (refuses 4 0) bytes
+  judging : {c : Code} {t : Kind} {x : Outcome ℕ} {after : List ℕ} → Start bytes start → Chosen f code parameter kind c t → WritesList bytes start c t parameter values x after
       → Writes bytes start f code parameter kind values x after
 
 -- "The end writer writes 0000 and zeros to the byte's end, and tells the bit after the last of them."
+abbrev pub endImage : ℕ → List Bool
+endImage start = endMark ++ zeros (toByteEnd (start + 4))
+
 pub data WritesEnd (bytes : List ℕ) (start : ℕ) : Outcome ℕ → List ℕ → Type 0 where
-  outside : (Place bytes start → ⊥) → WritesEnd bytes start (refuses 12 0) bytes
-  writing : {x : Outcome ℕ} {after : List ℕ} → Place bytes start → Puts bytes start (endMark ++ zeros (toByteEnd (start + 4))) x after → WritesEnd bytes start x after
+  outside : (Start bytes start → ⊥) → WritesEnd bytes start (refuses 12 0) bytes
+  writing : {x : Outcome ℕ} {after : List ℕ} → Start bytes start → Puts bytes start (endImage start) x after → WritesEnd bytes start x after

@@ -60,7 +60,7 @@ pub sized : {w : ℕ} → Word w → (m : ℕ) × (size w ≡ suc m) × Held 2 w
 unfolding size
 sized {w} h = digits-held 2 32 w (h .0) (omega arith)
 
-lead : {w m : ℕ} → Held 2 w m → w / 2 ^ m ≡ 1
+pub lead : {w m : ℕ} → Held 2 w m → w / 2 ^ m ≡ 1
 lead {w} {m} h = let a = h .low in let b = h .high in div-eq-of-lt-le (2 ^ m) (omega arith) (omega arith)
 
 -- B(w) begins with a one

@@ -200,7 +200,7 @@ part-rises n low hi xs = rises n n low hi xs (le-refl n)
 offset-total : (base v : ℕ) → Total (offset base v)
 offset-total base v = only-total 9 (fixed-total (width v)) (λ a h. judged a (decLt a v))
   where
-    judged : (a : ℕ) → Dec (a < v) → Dec (Source (λ s. (base ≤ s) × (s - base < v)) (λ s. s - base) a)
+    judged : (a : ℕ) → Dec (a < v) → Dec (Source (λ s. (base ≤ s) × (s < base + v)) (λ s. s - base) a)
     judged a (yes p) = yes (base + a, (omega arith, omega arith), omega arith)
     judged a (no p) = no (λ (s, g, e). p (omega arith))
 

@@ -8,7 +8,7 @@ use native.Mathlib.Decide.{decLe, decLt, ℕ-discrete}
 use native.Mathlib.Omega.{arith}
 use lib.IntN.{ℤ, pos}
 use lib.ListN.{length, getD}
-use Rattle.layout.specs.Bits.{zeros, bitsOf}
+use Rattle.layout.specs.Bits.{zeros, bitsOf, window}
 use Rattle.layout.specs.Layout.{Takes, Answer, taken, refused, Says}
 use Rattle.layout.specs.Laws.Beginnings.{begins?}
 use Rattle.layout.specs.Laws.Deciding.{both?}
@@ -17,7 +17,7 @@ use Rattle.format.specs.Limits.{longestBuffer}
 use Rattle.format.specs.Kinds.{Kind, kindNumber, Family, familyOf}
 use Rattle.format.specs.Records.{Record, Asked, recordFor, anyone, anyRecord}
 use Rattle.format.specs.Streams.{endMark}
-use Rattle.format.specs.Answers.{Outcome, refuses, gives, Span, window, bitOf, Told}
+use Rattle.format.specs.Answers.{Outcome, refuses, gives, Span, toldBit, Told}
 use Rattle.format.specs.Reading as Reading
 use Rattle.format.specs.Reading.{Entry, outside, stranger, reading, Item, listed, ended, NoEnd, Reader, filled, Reads, LookUp, LooksUp, Search, Searches, Padding, Check, Checks, below}
 use Rattle.format.specs.Laws.Kinds.{kind-one, kinds-search, family-is?}
@@ -31,28 +31,28 @@ same-rest : {w r s : List Bool} → w ≡ endMark ++ r → w ≡ endMark ++ s �
 same-rest e f = append-cancel-left endMark _ _ (sym e ∙ f)
 
 pub reader-one : {q : Asked} {stop : ℕ} {w : List Bool} {x y : Outcome Item} → Reader q stop w x → Reader q stop w y → x ≡ y
-reader-one {stop = stop} (Reading.ends e p) (Reading.ends f o) = ap (λ (n : ℕ). gives (ended n)) (p ∙ ap (bitOf stop) (same-rest e f) ∙ sym o)
+reader-one {stop = stop} (Reading.ends e p) (Reading.ends f o) = ap (λ (n : ℕ). gives (ended n)) (p ∙ ap (toldBit stop) (same-rest e f) ∙ sym o)
 reader-one {q} (Reading.ends e p) (Reading.lists t o) = absurd (takes-no-end q t _ e)
 reader-one (Reading.ends e p) (Reading.fails v m n o) = absurd (m _ e)
 reader-one {q} (Reading.lists t p) (Reading.ends f o) = absurd (takes-no-end q t _ f)
-reader-one {q} {stop} (Reading.lists t p) (Reading.lists k o) = let (a, r) = takes-one (record-sound q) t k in ap₂ (λ (b : Record) (n : ℕ). gives (listed b n)) a (p ∙ ap (bitOf stop) r ∙ sym o)
+reader-one {q} {stop} (Reading.lists t p) (Reading.lists k o) = let (a, r) = takes-one (record-sound q) t k in ap₂ (λ (b : Record) (n : ℕ). gives (listed b n)) a (p ∙ ap (toldBit stop) r ∙ sym o)
 reader-one {q} (Reading.lists t p) (Reading.fails v m n o) = absurd (record-sound q .apart n t)
 reader-one (Reading.fails v m n p) (Reading.ends f o) = absurd (m _ f)
 reader-one {q} (Reading.fails v m n p) (Reading.lists k o) = absurd (record-sound q .apart n k)
-reader-one {q} {stop} (Reading.fails v m n p) (Reading.fails z l k o) = let (a, u) = record-sound q .sole n k in ap₂ refuses a (p ∙ ap (bitOf stop) u ∙ sym o)
+reader-one {q} {stop} (Reading.fails v m n p) (Reading.fails z l k o) = let (a, u) = record-sound q .sole n k in ap₂ refuses a (p ∙ ap (toldBit stop) u ∙ sym o)
 
 pub reader-some : (q : Asked) (stop : ℕ) (w : List Bool) → (x : Outcome Item) × Reader q stop w x
 reader-some q stop w = go (begins? endMark w) (record-total q w)
   where
     go : Dec ((r : List Bool) × (w ≡ endMark ++ r)) → (x : Answer Record) × Says (recordFor q) w x → (x : Outcome Item) × Reader q stop w x
-    go (yes (r, e)) k = (gives (ended (bitOf stop r)), Reading.ends e refl)
-    go (no m) (taken a r, t) = (gives (listed a (bitOf stop r)), Reading.lists t refl)
-    go (no m) (refused n u, k) = (refuses n (bitOf stop u), Reading.fails u (λ r e. m (r, e)) k refl)
+    go (yes (r, e)) k = (gives (ended (toldBit stop r)), Reading.ends e refl)
+    go (no m) (taken a r, t) = (gives (listed a (toldBit stop r)), Reading.lists t refl)
+    go (no m) (refused n u, k) = (refuses n (toldBit stop u), Reading.fails u (λ r e. m (r, e)) k refl)
 
 -- ---- look-up and search
 
 pub look-up-one : {place : ℕ} {q : Asked} {stop : ℕ} {w : List Bool} {x y : Outcome ℤ} → LookUp place q stop w x → LookUp place q stop w y → x ≡ y
-look-up-one {q = q} {stop = stop} (Reading.fails v n p) (Reading.fails z k o) = let (a, u) = record-sound q .sole n k in ap₂ refuses a (p ∙ ap (bitOf stop) u ∙ sym o)
+look-up-one {q = q} {stop = stop} (Reading.fails v n p) (Reading.fails z k o) = let (a, u) = record-sound q .sole n k in ap₂ refuses a (p ∙ ap (toldBit stop) u ∙ sym o)
 look-up-one {q = q} (Reading.fails v n p) (Reading.beyond k o) = absurd (record-sound q .apart n k)
 look-up-one {q = q} (Reading.fails v n p) (Reading.finds k o e) = absurd (record-sound q .apart n k)
 look-up-one {q = q} (Reading.beyond t p) (Reading.fails v n o) = absurd (record-sound q .apart n t)
@@ -71,10 +71,10 @@ look-up-some place q stop w = go (record-total q w)
 
     go : (x : Answer Record) × Says (recordFor q) w x → (x : Outcome ℤ) × LookUp place q stop w x
     go (taken a r, t) = found a r t (decLt place (length (a .values)))
-    go (refused n u, k) = (refuses n (bitOf stop u), Reading.fails u k refl)
+    go (refused n u, k) = (refuses n (toldBit stop u), Reading.fails u k refl)
 
 pub search-one : {sought : ℕ} {q : Asked} {stop : ℕ} {w : List Bool} {x y : Outcome ℕ} → Search sought q stop w x → Search sought q stop w y → x ≡ y
-search-one {q = q} {stop = stop} (Reading.fails v n p) (Reading.fails z k o) = let (a, u) = record-sound q .sole n k in ap₂ refuses a (p ∙ ap (bitOf stop) u ∙ sym o)
+search-one {q = q} {stop = stop} (Reading.fails v n p) (Reading.fails z k o) = let (a, u) = record-sound q .sole n k in ap₂ refuses a (p ∙ ap (toldBit stop) u ∙ sym o)
 search-one {q = q} (Reading.fails v n p) (Reading.counts k e) = absurd (record-sound q .apart n k)
 search-one {q = q} (Reading.counts t e) (Reading.fails v n o) = absurd (record-sound q .apart n t)
 search-one {sought} {q} (Reading.counts t e) (Reading.counts k f) = ap gives (e ∙ ap (λ (a : Record). below sought (a .values)) (takes-one (record-sound q) t k .0) ∙ sym f)
@@ -84,7 +84,7 @@ search-some sought q stop w = go (record-total q w)
   where
     go : (x : Answer Record) × Says (recordFor q) w x → (x : Outcome ℕ) × Search sought q stop w x
     go (taken a r, t) = (gives (below sought (a .values)), Reading.counts t refl)
-    go (refused n u, k) = (refuses n (bitOf stop u), Reading.fails u k refl)
+    go (refused n u, k) = (refuses n (toldBit stop u), Reading.fails u k refl)
 
 -- ---- every entry: 12 and 7 first
 
@@ -105,8 +105,8 @@ span? bytes start stop = go (both? (decLe (length bytes) longestBuffer) (both? (
     go (yes (a, (b, c))) = yes (record { small = a; order = b; inside = c })
     go (no p) = no (λ s. p (s .small, (s .order, s .inside)))
 
-module _ {A : Type 0} {bytes : List ℕ} {start stop : ℕ} {f : Family} {kind : ℕ} {Reading : Kind → Outcome A → Type 0} where
-  pub entry-one : ((t : Kind) (x y : Outcome A) → Reading t x → Reading t y → x ≡ y) → {x y : Outcome A} → Entry bytes start stop f kind Reading x → Entry bytes start stop f kind Reading y → x ≡ y
+module _ {A : Type 0} {bytes : List ℕ} {start stop : ℕ} {f : Family} {kind : ℕ} {Fields : Kind → Outcome A → Type 0} where
+  pub entry-one : ((t : Kind) (x y : Outcome A) → Fields t x → Fields t y → x ≡ y) → {x y : Outcome A} → Entry bytes start stop f kind Fields x → Entry bytes start stop f kind Fields y → x ≡ y
   entry-one one (outside p) (outside q) = refl
   entry-one one (outside p) (stranger s q) = absurd (p s)
   entry-one one (outside p) (reading s t h k) = absurd (p s)
@@ -115,12 +115,12 @@ module _ {A : Type 0} {bytes : List ℕ} {start stop : ℕ} {f : Family} {kind :
   entry-one one (stranger s p) (reading z t h k) = absurd (p t h)
   entry-one one (reading s t h k) (outside q) = absurd (q s)
   entry-one one (reading s t h k) (stranger z q) = absurd (q t h)
-  entry-one one {x = x} {y = y} (reading s t h k) (reading z u l m) = one t x y k (subst (λ (v : Kind). Reading v y) (told-one l h) m)
+  entry-one one {x = x} {y = y} (reading s t h k) (reading z u l m) = one t x y k (subst (λ (v : Kind). Fields v y) (told-one l h) m)
 
-  pub entry-some : ((t : Kind) → (x : Outcome A) × Reading t x) → (x : Outcome A) × Entry bytes start stop f kind Reading x
+  pub entry-some : ((t : Kind) → (x : Outcome A) × Fields t x) → (x : Outcome A) × Entry bytes start stop f kind Fields x
   entry-some some = go (span? bytes start stop) (told? f kind)
     where
-      go : Dec (Span bytes start stop) → Dec ((t : Kind) × Told f kind t) → (x : Outcome A) × Entry bytes start stop f kind Reading x
+      go : Dec (Span bytes start stop) → Dec ((t : Kind) × Told f kind t) → (x : Outcome A) × Entry bytes start stop f kind Fields x
       go (no p) d = (refuses 12 0, outside p)
       go (yes s) (no p) = (refuses 7 0, stranger s (λ t h. p (t, h)))
       go (yes s) (yes (t, h)) = let (x, k) = some t in (x, reading s t h k)
@@ -161,12 +161,12 @@ padding? w = both? (decLt _ _) (List-discrete Bool-discrete w (zeros (length w))
 
 module _ {stop : ℕ} where
   pub check-one : {w : List Bool} {records values : ℕ} {x y : Outcome (ℕ × ℕ)} → Check stop x w records values → Check stop y w records values → x ≡ y
-  check-one (Reading.fails v m n e) (Reading.fails z l k f) = let (a, u) = record-sound anyone .sole n k in e ∙ ap₂ (λ (i : ℕ) (v : List Bool). refuses i (bitOf stop v)) a u ∙ sym f
+  check-one (Reading.fails v m n e) (Reading.fails z l k f) = let (a, u) = record-sound anyone .sole n k in e ∙ ap₂ (λ (i : ℕ) (v : List Bool). refuses i (toldBit stop v)) a u ∙ sym f
   check-one (Reading.fails v m n e) (Reading.unclean g p f) = absurd (m _ g)
   check-one (Reading.fails v m n e) (Reading.ends g p f) = absurd (m _ g)
   check-one (Reading.fails v m n e) (Reading.goesOn t k) = absurd (record-sound anyone .apart n t)
   check-one (Reading.unclean g p e) (Reading.fails v m n f) = absurd (m _ g)
-  check-one (Reading.unclean g p e) (Reading.unclean h q f) = e ∙ ap (λ (v : List Bool). refuses 11 (bitOf stop v)) (same-rest g h) ∙ sym f
+  check-one (Reading.unclean g p e) (Reading.unclean h q f) = e ∙ ap (λ (v : List Bool). refuses 11 (toldBit stop v)) (same-rest g h) ∙ sym f
   check-one (Reading.unclean g p e) (Reading.ends h q f) = absurd (p (subst Padding (same-rest h g) q))
   check-one (Reading.unclean g p e) (Reading.goesOn t k) = absurd (takes-no-end anyone t _ g)
   check-one (Reading.ends g p e) (Reading.fails v m n f) = absurd (m _ g)
@@ -186,7 +186,7 @@ module _ {stop : ℕ} where
     where
       mark : (r : List Bool) → w ≡ endMark ++ r → Dec (Padding r) → (x : Outcome (ℕ × ℕ)) × Check stop x w records values
       mark r e (yes p) = (gives (records, values), Reading.ends e p refl)
-      mark r e (no p) = (refuses 11 (bitOf stop r), Reading.unclean e p refl)
+      mark r e (no p) = (refuses 11 (toldBit stop r), Reading.unclean e p refl)
 
       go : Dec ((r : List Bool) × (w ≡ endMark ++ r)) → (x : Answer Record) × Says anyRecord w x
           → ((v : List Bool) (i j : ℕ) → length v < turns → (x : Outcome (ℕ × ℕ)) × Check stop x v i j) → (x : Outcome (ℕ × ℕ)) × Check stop x w records values
@@ -194,7 +194,7 @@ module _ {stop : ℕ} where
       go (no m) (taken a r, t) next =
           let (x, k) = next r (records + 1) (values + length (a .values)) (omega (arith, takes-shorter anyone t)) in
           (x, Reading.goesOn t k)
-      go (no m) (refused n u, k) next = (refuses n (bitOf stop u), Reading.fails u (λ r e. m (r, e)) k refl)
+      go (no m) (refused n u, k) next = (refuses n (toldBit stop u), Reading.fails u (λ r e. m (r, e)) k refl)
 
 pub checks-one : (bytes : List ℕ) (x y : Outcome (ℕ × ℕ)) → Checks bytes x → Checks bytes y → x ≡ y
 checks-one bytes x y (Reading.outside p) (Reading.outside q) = refl

@@ -8,16 +8,17 @@ use native.Mathlib.Decide.{decLe, decLt, ℕ-discrete}
 use native.Mathlib.Omega.{arith}
 use lib.IntN.{ℤ, pos, negsuc}
 use lib.ListN.{length, take, drop, length-append, length-take, length-drop, length-replicate}
-use Rattle.layout.specs.Bits.{zeros, bitsOf, put}
-use Rattle.layout.specs.Laws.Bits.{Bytes, bytes-one, bytes-some, length-bitsOf}
+use Rattle.layout.specs.Bits.{zeros, Bytes, bitsOf, put}
+use Rattle.layout.specs.Laws.Bits.{bytes-one, bytes-some, length-bitsOf}
+use Rattle.layout.specs.Laws.Windows.{length-put}
 use Rattle.layout.specs.Laws.Deciding.{both?, implies?}
 use Rattle.format.specs.Limits.{longestBuffer, longestList, largestWord, largestInstant, largestCorrection, largestParameter}
 use Rattle.format.specs.Kinds.{Kind, Plain, Instants, Corrections, Family, InRange, natural, NotBelow, Fits, ListOf}
 use Rattle.format.specs.Records.{Code, Interpolative, codeNumber}
 use Rattle.format.specs.Streams.{endMark, toByteEnd}
-use Rattle.format.specs.Answers.{Outcome, refuses, gives, Place, Told}
+use Rattle.format.specs.Answers.{Outcome, refuses, gives, Start, Told}
 use Rattle.format.specs.Writing as Writing
-use Rattle.format.specs.Writing.{parameterOf, Chosen, Faulty, range, falls, later, Puts, full, done, written, WritesList, Writes, WritesEnd}
+use Rattle.format.specs.Writing.{parameterOf, Chosen, endImage, Faulty, range, falls, later, Puts, full, done, written, WritesList, Writes, WritesEnd}
 use Rattle.format.specs.Laws.Kinds.{kind-is?, kinds-search}
 use Rattle.format.specs.Laws.Records.{code-one, code-is?, codes-search}
 use Rattle.format.specs.Laws.Reading.{told-one, told?}
@@ -66,26 +67,22 @@ faulty-one (later f k) (later g l) = let (a, b) = faulty-one k l in (a, ap suc b
 
 -- ---- bits in their place
 
-length-put : (l : List Bool) (at : ℕ) (new : List Bool) → at + length new ≤ length l → length (put l at new) ≡ length l
-unfolding put
-length-put l at new h = simp (length-append, length-take, length-drop) (omega arith)
-
 module _ {bytes : List ℕ} {start : ℕ} {image : List Bool} where
-  pub puts-one : {x y : Outcome ℕ} {after after′ : List ℕ} → Bytes after → Bytes after′ → Puts bytes start image x after → Puts bytes start image y after′ → (x ≡ y) × (after ≡ after′)
-  puts-one a b (full h) (full l) = (refl, refl)
-  puts-one a b (full h) (done l e) = absurd (omega arith)
-  puts-one a b (done h e) (full l) = absurd (omega arith)
-  puts-one {after = after} {after′ = after′} a b (done h e) (done l f) = (refl, bytes-one after after′ a b (e ∙ sym f))
+  pub puts-one : {x y : Outcome ℕ} {after after′ : List ℕ} → Puts bytes start image x after → Puts bytes start image y after′ → (x ≡ y) × (after ≡ after′)
+  puts-one (full h) (full l) = (refl, refl)
+  puts-one (full h) (done l b e) = absurd (omega arith)
+  puts-one (done h b e) (full l) = absurd (omega arith)
+  puts-one {after = after} {after′ = after′} (done h b e) (done l c f) = (refl, bytes-one after after′ b c (e ∙ sym f))
 
-  pub puts-some : Bytes bytes → start ≤ 8 * length bytes → (x : Outcome ℕ) × (after : List ℕ) × Bytes after × Puts bytes start image x after
-  puts-some a s = go (decLe (length image) (8 * length bytes - start))
+  pub puts-some : start ≤ 8 * length bytes → (x : Outcome ℕ) × (after : List ℕ) × Puts bytes start image x after
+  puts-some s = go (decLe (length image) (8 * length bytes - start))
     where
-      go : Dec (length image ≤ 8 * length bytes - start) → (x : Outcome ℕ) × (after : List ℕ) × Bytes after × Puts bytes start image x after
+      go : Dec (length image ≤ 8 * length bytes - start) → (x : Outcome ℕ) × (after : List ℕ) × Puts bytes start image x after
       go (yes h) =
           let n = length-bitsOf bytes in
           let (after, b, e) = bytes-some (length bytes) (put (bitsOf bytes) start image) (length-put (bitsOf bytes) start image (omega arith) ∙ n) in
-          (gives (start + length image), after, b, done h e)
-      go (no h) = (refuses 5 0, bytes, a, full (omega arith))
+          (gives (start + length image), after, done h b e)
+      go (no h) = (refuses 5 0, bytes, full (omega arith))
 
 -- ---- the record writer
 
@@ -108,76 +105,76 @@ chosen? f code parameter kind =
     go (no p) d = no (λ (c, t, l). p (t, l .told))
 
 module _ {bytes : List ℕ} {start : ℕ} {c : Code} {t : Kind} {parameter : ℕ} {values : List ℤ} where
-  writes-list-one : {x y : Outcome ℕ} {after after′ : List ℕ} → Bytes after → Bytes after′
+  writes-list-one : {x y : Outcome ℕ} {after after′ : List ℕ}
       → WritesList bytes start c t parameter values x after → WritesList bytes start c t parameter values y after′ → (x ≡ y) × (after ≡ after′)
-  writes-list-one a b (Writing.long h) (Writing.long l) = (refl, refl)
-  writes-list-one a b (Writing.long h) (Writing.faulty l k) = absurd (omega arith)
-  writes-list-one a b (Writing.long h) (Writing.writing l k p) = absurd (omega arith)
-  writes-list-one a b (Writing.faulty h k) (Writing.long l) = absurd (omega arith)
-  writes-list-one a b (Writing.faulty h k) (Writing.faulty l m) = let (n, i) = faulty-one k m in (ap₂ refuses n i, refl)
-  writes-list-one a b (Writing.faulty h k) (Writing.writing l m p) = absurd (faulty-list k m)
-  writes-list-one a b (Writing.writing h k p) (Writing.long l) = absurd (omega arith)
-  writes-list-one a b (Writing.writing h k p) (Writing.faulty l m) = absurd (faulty-list m k)
-  writes-list-one a b (Writing.writing h k p) (Writing.writing l m q) = puts-one a b p q
+  writes-list-one (Writing.long h) (Writing.long l) = (refl, refl)
+  writes-list-one (Writing.long h) (Writing.faulty l k) = absurd (omega arith)
+  writes-list-one (Writing.long h) (Writing.writing l k p) = absurd (omega arith)
+  writes-list-one (Writing.faulty h k) (Writing.long l) = absurd (omega arith)
+  writes-list-one (Writing.faulty h k) (Writing.faulty l m) = let (n, i) = faulty-one k m in (ap₂ refuses n i, refl)
+  writes-list-one (Writing.faulty h k) (Writing.writing l m p) = absurd (faulty-list k m)
+  writes-list-one (Writing.writing h k p) (Writing.long l) = absurd (omega arith)
+  writes-list-one (Writing.writing h k p) (Writing.faulty l m) = absurd (faulty-list m k)
+  writes-list-one (Writing.writing h k p) (Writing.writing l m q) = puts-one p q
 
-  writes-list-some : Bytes bytes → start ≤ 8 * length bytes → (x : Outcome ℕ) × (after : List ℕ) × Bytes after × WritesList bytes start c t parameter values x after
-  writes-list-some a s = go (decLe (length values) longestList) (faulty-or-list t (pos 0) values) (puts-some {image = written c t parameter values} a s)
+  writes-list-some : start ≤ 8 * length bytes → (x : Outcome ℕ) × (after : List ℕ) × WritesList bytes start c t parameter values x after
+  writes-list-some s = go (decLe (length values) longestList) (faulty-or-list t (pos 0) values) (puts-some {image = written c t parameter values} s)
     where
       go : Dec (length values ≤ longestList) → ((n : ℕ) × (i : ℕ) × Faulty t (pos 0) values n i) ⊎ ListOf t (pos 0) values
-          → (x : Outcome ℕ) × (after : List ℕ) × Bytes after × Puts bytes start (written c t parameter values) x after
-          → (x : Outcome ℕ) × (after : List ℕ) × Bytes after × WritesList bytes start c t parameter values x after
-      go (no h) l p = (refuses 1 0, bytes, a, Writing.long (omega arith))
-      go (yes h) (inl (n, i, k)) p = (refuses n i, bytes, a, Writing.faulty h k)
-      go (yes h) (inr l) (x, after, b, p) = (x, after, b, Writing.writing h l p)
+          → (x : Outcome ℕ) × (after : List ℕ) × Puts bytes start (written c t parameter values) x after
+          → (x : Outcome ℕ) × (after : List ℕ) × WritesList bytes start c t parameter values x after
+      go (no h) l p = (refuses 1 0, bytes, Writing.long (omega arith))
+      go (yes h) (inl (n, i, k)) p = (refuses n i, bytes, Writing.faulty h k)
+      go (yes h) (inr l) (x, after, p) = (x, after, Writing.writing h l p)
 
-place? : (bytes : List ℕ) (start : ℕ) → Dec (Place bytes start)
-place? bytes start = go (both? (decLe (length bytes) longestBuffer) (decLe start (8 * length bytes)))
+start? : (bytes : List ℕ) (start : ℕ) → Dec (Start bytes start)
+start? bytes start = go (both? (decLe (length bytes) longestBuffer) (decLe start (8 * length bytes)))
   where
-    go : Dec ((length bytes ≤ longestBuffer) × (start ≤ 8 * length bytes)) → Dec (Place bytes start)
+    go : Dec ((length bytes ≤ longestBuffer) × (start ≤ 8 * length bytes)) → Dec (Start bytes start)
     go (yes (a, b)) = yes (record { small = a; inside = b })
     go (no p) = no (λ s. p (s .small, s .inside))
 
 module _ (bytes : List ℕ) (start : ℕ) where
   module _ (f : Family) (code parameter kind : ℕ) (values : List ℤ) where
-    pub writes-one : (x y : Outcome ℕ) (after after′ : List ℕ) → Bytes after → Bytes after′
+    pub writes-one : (x y : Outcome ℕ) (after after′ : List ℕ)
         → Writes bytes start f code parameter kind values x after → Writes bytes start f code parameter kind values y after′ → (x ≡ y) × (after ≡ after′)
-    writes-one x y after after′ a b (Writing.outside p) (Writing.outside q) = (refl, refl)
-    writes-one x y after after′ a b (Writing.outside p) (Writing.unknown s q) = absurd (p s)
-    writes-one x y after after′ a b (Writing.outside p) (Writing.judging s h k) = absurd (p s)
-    writes-one x y after after′ a b (Writing.unknown s p) (Writing.outside q) = absurd (q s)
-    writes-one x y after after′ a b (Writing.unknown s p) (Writing.unknown z q) = (refl, refl)
-    writes-one x y after after′ a b (Writing.unknown s p) (Writing.judging z h k) = absurd (p _ _ h)
-    writes-one x y after after′ a b (Writing.judging s h k) (Writing.outside q) = absurd (q s)
-    writes-one x y after after′ a b (Writing.judging s h k) (Writing.unknown z q) = absurd (q _ _ h)
-    writes-one x y after after′ a b (Writing.judging s h k) (Writing.judging z l m) =
-        writes-list-one a b k (subst₂ (λ (d : Code) (u : Kind). WritesList bytes start d u parameter values y after′) (chosen-code l h) (told-one (l .told) (h .told)) m)
+    writes-one x y after after′ (Writing.outside p) (Writing.outside q) = (refl, refl)
+    writes-one x y after after′ (Writing.outside p) (Writing.unknown s q) = absurd (p s)
+    writes-one x y after after′ (Writing.outside p) (Writing.judging s h k) = absurd (p s)
+    writes-one x y after after′ (Writing.unknown s p) (Writing.outside q) = absurd (q s)
+    writes-one x y after after′ (Writing.unknown s p) (Writing.unknown z q) = (refl, refl)
+    writes-one x y after after′ (Writing.unknown s p) (Writing.judging z h k) = absurd (p _ _ h)
+    writes-one x y after after′ (Writing.judging s h k) (Writing.outside q) = absurd (q s)
+    writes-one x y after after′ (Writing.judging s h k) (Writing.unknown z q) = absurd (q _ _ h)
+    writes-one x y after after′ (Writing.judging s h k) (Writing.judging z l m) =
+        writes-list-one k (subst₂ (λ (d : Code) (u : Kind). WritesList bytes start d u parameter values y after′) (chosen-code l h) (told-one (l .told) (h .told)) m)
 
-    pub writes-some : Bytes bytes → (x : Outcome ℕ) × (after : List ℕ) × Bytes after × Writes bytes start f code parameter kind values x after
-    writes-some a = go (place? bytes start) (chosen? f code parameter kind)
+    pub writes-some : (x : Outcome ℕ) × (after : List ℕ) × Writes bytes start f code parameter kind values x after
+    writes-some = go (start? bytes start) (chosen? f code parameter kind)
       where
-        go : Dec (Place bytes start) → Dec ((c : Code) × (t : Kind) × Chosen f code parameter kind c t)
-            → (x : Outcome ℕ) × (after : List ℕ) × Bytes after × Writes bytes start f code parameter kind values x after
-        go (no p) d = (refuses 12 0, bytes, a, Writing.outside p)
-        go (yes s) (no p) = (refuses 4 0, bytes, a, Writing.unknown s (λ c t h. p (c, t, h)))
-        go (yes s) (yes (c, t, h)) = let (x, after, b, k) = writes-list-some a (s .inside) in (x, after, b, Writing.judging s h k)
+        go : Dec (Start bytes start) → Dec ((c : Code) × (t : Kind) × Chosen f code parameter kind c t)
+            → (x : Outcome ℕ) × (after : List ℕ) × Writes bytes start f code parameter kind values x after
+        go (no p) d = (refuses 12 0, bytes, Writing.outside p)
+        go (yes s) (no p) = (refuses 4 0, bytes, Writing.unknown s (λ c t h. p (c, t, h)))
+        go (yes s) (yes (c, t, h)) = let (x, after, k) = writes-list-some (s .inside) in (x, after, Writing.judging s h k)
 
   -- ---- the end writer
 
-  pub writes-end-one : (x y : Outcome ℕ) (after after′ : List ℕ) → Bytes after → Bytes after′ → WritesEnd bytes start x after → WritesEnd bytes start y after′ → (x ≡ y) × (after ≡ after′)
-  writes-end-one x y after after′ a b (Writing.outside p) (Writing.outside q) = (refl, refl)
-  writes-end-one x y after after′ a b (Writing.outside p) (Writing.writing s k) = absurd (p s)
-  writes-end-one x y after after′ a b (Writing.writing s k) (Writing.outside q) = absurd (q s)
-  writes-end-one x y after after′ a b (Writing.writing s k) (Writing.writing z m) = puts-one a b k m
+  pub writes-end-one : (x y : Outcome ℕ) (after after′ : List ℕ) → WritesEnd bytes start x after → WritesEnd bytes start y after′ → (x ≡ y) × (after ≡ after′)
+  writes-end-one x y after after′ (Writing.outside p) (Writing.outside q) = (refl, refl)
+  writes-end-one x y after after′ (Writing.outside p) (Writing.writing s k) = absurd (p s)
+  writes-end-one x y after after′ (Writing.writing s k) (Writing.outside q) = absurd (q s)
+  writes-end-one x y after after′ (Writing.writing s k) (Writing.writing z m) = puts-one k m
 
-  pub writes-end-some : Bytes bytes → (x : Outcome ℕ) × (after : List ℕ) × Bytes after × WritesEnd bytes start x after
-  writes-end-some a = go (place? bytes start)
+  pub writes-end-some : (x : Outcome ℕ) × (after : List ℕ) × WritesEnd bytes start x after
+  writes-end-some = go (start? bytes start)
     where
-      go : Dec (Place bytes start) → (x : Outcome ℕ) × (after : List ℕ) × Bytes after × WritesEnd bytes start x after
-      go (no p) = (refuses 12 0, bytes, a, Writing.outside p)
-      go (yes s) = let (x, after, b, k) = puts-some a (s .inside) in (x, after, b, Writing.writing s k)
+      go : Dec (Start bytes start) → (x : Outcome ℕ) × (after : List ℕ) × WritesEnd bytes start x after
+      go (no p) = (refuses 12 0, bytes, Writing.outside p)
+      go (yes s) = let (x, after, k) = puts-some (s .inside) in (x, after, Writing.writing s k)
 
   -- it has no room exactly where fewer than the mark's four bits are left: the byte's end is in the buffer
-  pub end-room : Place bytes start → (8 * length bytes - start < length (endMark ++ zeros (toByteEnd (start + 4)))) ↔ (8 * length bytes - start < 4)
+  pub end-room : Start bytes start → (8 * length bytes - start < length (endImage start)) ↔ (8 * length bytes - start < 4)
   end-room s =
       let n = length-replicate (toByteEnd (start + 4)) false in
       (λ h. omega (arith, s .inside), λ h. omega arith)

@@ -3,14 +3,13 @@ use mathlib.Core.Path.{_≡_, refl, sym, ap, ap₂, _∙_, subst}
 use mathlib.Core.Bool.{Bool, true, false}
 use mathlib.Core.List.{List, [], _∷_, _++_, append-assoc}
 use Prim.Native.Nat.{ℕ, zero, suc, _+_, _*_, _/_, _%_, _^_, _≤_, _<_}
-use native.Mathlib.Nat.{mod-lt, mod-one, mod-eq-of-lt, zero-lt-suc, zero-add, suc-add, add-comm, mul-comm, mul-assoc, mul-suc, zero-mul, pow-suc, add-mul-div-right, mul-add-mod-self-right}
+use native.Mathlib.Nat.{mod-lt, mod-one, zero-div, mod-eq-of-lt, zero-lt-suc, zero-add, suc-add, add-comm, add-assoc, add-mul, mul-comm, mul-assoc, mul-suc, zero-mul, pow-suc, add-mul-div-right, mul-add-mod-self-right}
 use native.Mathlib.Omega.{arith}
 use lib.Dec.{eqb}
-use lib.Pow.{pow-pos, high, mod-pow-add}
+use lib.Pow.{pow-pos, pow-add, shr-shr, high, split, mod-pow-add}
 use lib.ListN.{length, take, drop, length-append, length-drop, take-append-drop}
 use lib.Seq.{take-at, drop-at, length-take-le}
-use Rattle.layout.specs.Bits.{odd, inBits, bitsOf}
-use Rattle.layout.specs.Layout.{All}
+use Rattle.layout.specs.Bits.{odd, inBits, Bytes, bitsOf, zeros}
 use Rattle.layout.specs.Laws.Beginnings.{Splits}
 
 -- ---- the number that bits stand for
@@ -53,6 +52,19 @@ unfolding inBits
 length-inBits zero n = refl
 length-inBits (suc w) n = ap suc (length-inBits w n)
 
+-- the k bits above the lowest j, and those
+pub inBits-split : (k j n : ℕ) → inBits (k + j) n ≡ inBits k (n / 2 ^ j) ++ inBits j n
+unfolding inBits
+inBits-split zero j n = ap (λ (m : ℕ). inBits m n) (zero-add j)
+inBits-split (suc k) j n =
+    ap (λ (m : ℕ). inBits m n) (suc-add k j)
+    ∙ ap₂ (λ (b : Bool) (r : List Bool). b ∷ r) (ap (λ (m : ℕ). odd (n / 2 ^ m)) (add-comm k j) ∙ ap odd (sym (shr-shr n j k))) (inBits-split k j n)
+
+pub inBits-zero : (w : ℕ) → inBits w 0 ≡ zeros w
+unfolding inBits odd
+inBits-zero zero = refl
+inBits-zero (suc w) = ap₂ _∷_ (ap (λ (n : ℕ). eqb (n % 2) 1) (zero-div (2 ^ w))) (inBits-zero w)
+
 -- what stands above the lowest j bits does not matter to them
 pub inBits-low : (j h n : ℕ) → inBits j (h * 2 ^ j + n) ≡ inBits j n
 unfolding inBits
@@ -65,6 +77,23 @@ inBits-low (suc j) h n =
     ∙ ap odd (add-mul-div-right n (h * 2) (pow-pos j) ∙ add-comm (n / 2 ^ j) (h * 2))
     ∙ odd-add h (n / 2 ^ j))
     (ap (λ (m : ℕ). inBits j (m + n)) e ∙ inBits-low j (h * 2) n)
+
+-- two numbers put together
+pub inBits-cat : (k j h : ℕ) {n : ℕ} → n < 2 ^ j → inBits (k + j) (h * 2 ^ j + n) ≡ inBits k h ++ inBits j n
+inBits-cat k j h {n} l =
+    inBits-split k j (h * 2 ^ j + n) ∙ ap₂ (λ (a b : List Bool). a ++ b) (ap (inBits k) (high h j l)) (inBits-low j h n)
+
+pub inBits-mod : (w n : ℕ) → inBits w (n % 2 ^ w) ≡ inBits w n
+inBits-mod w n = sym (inBits-low w (n / 2 ^ w) (n % 2 ^ w)) ∙ ap (inBits w) (split n w)
+
+pub val-append : (a b : List Bool) → val (a ++ b) ≡ val a * 2 ^ length b + val b
+unfolding val
+val-append [] b = sym (ap (λ (m : ℕ). m + val b) (zero-mul (2 ^ length b)) ∙ zero-add (val b))
+val-append (x ∷ a) b =
+    ap₂ (λ (m n : ℕ). num x * m + n) (ap (λ (m : ℕ). 2 ^ m) (length-append a b) ∙ pow-add 2 (length a) (length b)) (val-append a b)
+    ∙ ap (λ (m : ℕ). m + (val a * 2 ^ length b + val b)) (sym (mul-assoc (num x) (2 ^ length a) (2 ^ length b)))
+    ∙ sym (add-assoc (num x * 2 ^ length a * 2 ^ length b) (val a * 2 ^ length b) (val b))
+    ∙ ap (λ (m : ℕ). m + val b) (sym (add-mul (num x * 2 ^ length a) (val a) (2 ^ length b)))
 
 pub val-inBits : (w n : ℕ) → val (inBits w n) ≡ n % 2 ^ w
 unfolding val inBits
@@ -119,10 +148,12 @@ unfolding bitsOf
 length-bitsOf [] = refl
 length-bitsOf (b ∷ s) = simp (length-append, length-inBits, length-bitsOf s, mul-suc) (add-comm 8 (8 * length s))
 
--- buffers of bytes with the same bits are the same
-abbrev pub Bytes : List ℕ → Type 0
-Bytes = All (λ b. b < 256)
+pub bitsOf-append : (a b : List ℕ) → bitsOf (a ++ b) ≡ bitsOf a ++ bitsOf b
+unfolding bitsOf
+bitsOf-append [] b = refl
+bitsOf-append (x ∷ a) b = ap (λ (r : List Bool). inBits 8 x ++ r) (bitsOf-append a b) ∙ sym (append-assoc (inBits 8 x) (bitsOf a) (bitsOf b))
 
+-- buffers of bytes with the same bits are the same
 pub bytes-one : (s t : List ℕ) → Bytes s → Bytes t → bitsOf s ≡ bitsOf t → s ≡ t
 bytes-one [] [] h l e = refl
 bytes-one [] (b ∷ t) h l e = let k = sym (length-bitsOf []) ∙ ap length e ∙ length-bitsOf (b ∷ t) in absurd (omega arith)

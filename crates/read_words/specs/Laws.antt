@@ -1,0 +1,6 @@
+-- What follows from the definitions. Nothing here has to be believed: it is proved.
+pub mod Told
+pub mod Zeros
+pub mod Ranges
+pub mod Readers
+pub mod VariableByte

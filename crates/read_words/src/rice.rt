@@ -1,0 +1,50 @@
+// Rice: the quotient of w - 1 by 2^k in zeros, a one, and the remainder in k bits.
+ghost use mathlib.Core.Path.{_≡_};
+ghost use Prim.Native.Nat.{_+_, _-_, _*_, _/_, _^_, _≤_, _<_, min};
+ghost use lib.ListN.{length};
+ghost use Rattle.format.specs.Codes.{Word, rice};
+ghost use Rattle.bits.specs.Cursor.{Within};
+ghost use Rattle.read_words.specs.Told.{ToldWord};
+use crate::Read;
+use crate::parts::between;
+use crate::parts::zeros;
+use bits::Cursor;
+use bits::small::power;
+
+// The largest quotient of w - 1 by p.
+fn most_zeros(p: u32) -> usize
+    requires { ⌜ 0 < p ⌝ }
+    ensures { λ r. ⌜ (r ≡ 4294967294 / p) × (r ≤ 4294967294) ⌝ }
+{
+    (4294967294 / p) as usize
+}
+
+// The largest remainder after a quotient that is worth base.
+fn most_after(p: u32, base: u64) -> u64
+    requires { ⌜ (0 < p) × (base ≤ 4294967294) ⌝ }
+    ensures { λ r. ⌜ (r ≡ min (p - 1) (4294967294 - base)) × (r < p) × (r + base ≤ 4294967294) ⌝ }
+{
+    if ((p - 1) as u64) < 4294967294 - base {
+        return (p - 1) as u64;
+    }
+    4294967294 - base
+}
+
+pub fn read(c: Cursor, s: &[u8], k: usize) -> Read
+    requires { ⌜ Within c (length (now s)) × (k ≤ 31) ⌝ }
+    ensures { λ r. ⌜ ToldWord Word (rice k) (now (s .entry)) c r ⌝ }
+{
+    let p = power(k);
+    match zeros(c, s, most_zeros(p)) {
+        Read::Took(q, d) => {
+            let base = q as u64 * p as u64;
+            match between(d, s, k, 0, most_after(p, base)) {
+                Read::Took(r, e) => Read::Took((base + r as u64 + 1) as u32, e),
+                Read::Cut => Read::Cut,
+                Read::Bad(t) => Read::Bad(t),
+            }
+        }
+        Read::Cut => Read::Cut,
+        Read::Bad(t) => Read::Bad(t),
+    }
+}

@@ -1,0 +1,114 @@
+-- How long the words of each code are, and how they are written part by part.
+use mathlib.Core.Path.{_≡_, refl, sym, ap, ap₂, _∙_}
+use mathlib.Core.Bool.{Bool, true, false}
+use mathlib.Core.List.{List, _∷_, _++_}
+use Prim.Native.Nat.{ℕ, zero, suc, _+_, _-_, _*_, _/_, _%_, _^_, _≤_, _<_}
+use native.Mathlib.Nat.{zero-add, one-mul, mod-lt, mod-eq-sub-div-mul}
+use native.Mathlib.Omega.{arith}
+use lib.Pow.{pow-pos}
+use lib.ListN.{length, length-append, length-replicate}
+use Rattle.layout.specs.Bits.{odd, inBits, zeros, put}
+use Rattle.layout.specs.Laws.Bits.{length-inBits, inBits-cat, inBits-mod}
+use Rattle.layout.specs.Laws.Windows.{put-more}
+use Rattle.format.specs.Codes.{digits, size, binary, gamma, delta, rice, another, groups, variableByte}
+use Rattle.bits.specs.Laws.Length.{power-seven}
+
+-- two parts written side by side are one
+pub put-both : {m r : List Bool} (l a b : List Bool) (at n : ℕ) → at ≤ length l → n ≡ length a → m ≡ put l at a → r ≡ put m (at + n) b → r ≡ put l at (a ++ b)
+put-both l a b at n h e p q = q ∙ ap₂ (λ (x : List Bool) (k : ℕ). put x (at + k) b) p e ∙ put-more l at a b h
+
+-- ---- gamma and delta
+
+length-binary : (w : ℕ) → length (binary w) ≡ size w
+unfolding binary
+length-binary w = length-inBits (size w) w
+
+pub length-gamma : (w : ℕ) → length (gamma w) ≡ size w - 1 + size w
+unfolding gamma
+length-gamma w =
+    length-append (zeros (size w - 1)) (binary w) ∙ ap₂ (λ (a b : ℕ). a + b) (length-replicate (size w - 1) false) (length-binary w)
+
+pub length-delta : (w n : ℕ) → n ≡ size w → length (delta w) ≡ length (gamma n) + n
+unfolding delta
+length-delta w n e =
+    length-append (gamma (size w)) (binary w) ∙ ap (λ (b : ℕ). length (gamma (size w)) + b) (length-binary w) ∙ ap (λ (k : ℕ). length (gamma k) + k) (sym e)
+
+pub gamma-written : {m r : List Bool} (l : List Bool) (at n w : ℕ) → at ≤ length l → n ≡ size w
+    → m ≡ put l at (zeros (n - 1)) → r ≡ put m (at + (n - 1)) (inBits n w) → r ≡ put l at (gamma w)
+unfolding gamma binary
+gamma-written l at n w h e p q =
+    put-both l (zeros (n - 1)) (inBits n w) at (n - 1) h (sym (length-replicate (n - 1) false)) p q
+    ∙ ap (λ (k : ℕ). put l at (zeros (k - 1) ++ inBits k w)) e
+
+pub delta-written : {m r : List Bool} (l : List Bool) (at n w next : ℕ) → at ≤ length l → n ≡ size w → next ≡ at + length (gamma n)
+    → m ≡ put l at (gamma n) → r ≡ put m next (inBits n w) → r ≡ put l at (delta w)
+unfolding delta binary
+delta-written {m} l at n w next h e f p q =
+    put-both l (gamma n) (inBits n w) at (length (gamma n)) h refl p (q ∙ ap (λ (k : ℕ). put m k (inBits n w)) f)
+    ∙ ap (λ (k : ℕ). put l at (gamma k ++ inBits k w)) e
+
+-- ---- Rice
+
+-- the one and what is left are one field
+rice-field : (k w : ℕ) → rice k w ≡ zeros ((w - 1) / 2 ^ k) ++ inBits (k + 1) (2 ^ k + (w - 1) % 2 ^ k)
+unfolding rice inBits odd
+rice-field k w =
+    let r = (w - 1) % 2 ^ k in
+    let e : 1 + k ≡ k + 1 = omega arith in
+    ap (λ (x : List Bool). zeros ((w - 1) / 2 ^ k) ++ x)
+    (ap (λ (n : ℕ). true ∷ inBits k n) (sym (mod-eq-sub-div-mul (w - 1) (2 ^ k)))
+    ∙ sym (inBits-cat 1 k 1 (mod-lt (w - 1) (pow-pos k)))
+    ∙ ap₂ (λ (m n : ℕ). inBits m (n + r)) e (one-mul (2 ^ k)))
+
+pub length-rice : (k w : ℕ) → length (rice k w) ≡ (w - 1) / 2 ^ k + (k + 1)
+length-rice k w =
+    ap length (rice-field k w)
+    ∙ length-append (zeros ((w - 1) / 2 ^ k)) (inBits (k + 1) (2 ^ k + (w - 1) % 2 ^ k))
+    ∙ ap₂ (λ (a b : ℕ). a + b) (length-replicate ((w - 1) / 2 ^ k) false) (length-inBits (k + 1) (2 ^ k + (w - 1) % 2 ^ k))
+
+pub rice-written : {m r : List Bool} (l : List Bool) (at k w one : ℕ) → at ≤ length l → one ≡ 2 ^ k
+    → m ≡ put l at (zeros ((w - 1) / 2 ^ k)) → r ≡ put m (at + (w - 1) / 2 ^ k) (inBits (k + 1) (one + (w - 1) % one)) → r ≡ put l at (rice k w)
+rice-written {m} l at k w one h e p q =
+    let z = (w - 1) / 2 ^ k in
+    put-both l (zeros z) (inBits (k + 1) (2 ^ k + (w - 1) % 2 ^ k)) at z h (sym (length-replicate z false)) p
+    (q ∙ ap (λ (n : ℕ). put m (at + z) (inBits (k + 1) (n + (w - 1) % n))) e)
+    ∙ ap (put l at) (sym (rice-field k w))
+
+-- ---- variable-byte
+
+length-groups : (g w : ℕ) → length (groups g w) ≡ 8 * g
+unfolding groups
+length-groups zero w = refl
+length-groups (suc g) w =
+    ap suc (length-append (inBits 7 (w / 128 ^ g)) (groups g w) ∙ ap₂ (λ (a b : ℕ). a + b) (length-inBits 7 (w / 128 ^ g)) (length-groups g w)) ∙ omega arith
+
+pub length-variable-byte : (w : ℕ) → length (variableByte w) ≡ 8 * digits 128 5 w
+unfolding variableByte
+length-variable-byte w = length-groups (digits 128 5 w) w
+
+-- a group of w after which g more come, behind its flag
+group-low : (w g : ℕ) → inBits 7 (w / 2 ^ (7 * g) % 128) ≡ inBits 7 (w / 128 ^ g)
+group-low w g = inBits-mod 7 (w / 2 ^ (7 * g)) ∙ ap (λ (n : ℕ). inBits 7 (w / n)) (sym (power-seven g))
+
+pub last-unit : (w g : ℕ) → g ≡ 0 → inBits 8 (w / 2 ^ (7 * g) % 128) ≡ another g ∷ inBits 7 (w / 128 ^ g)
+unfolding inBits odd
+last-unit w g e =
+    let x = w / 2 ^ (7 * g) in
+    ap (inBits 8) (sym (zero-add (x % 128))) ∙ inBits-cat 1 7 0 (mod-lt x (omega arith)) ∙ ap₂ _∷_ (sym (ap another e)) (group-low w g)
+
+pub earlier-unit : (w g : ℕ) → 0 < g → inBits 8 (128 + w / 2 ^ (7 * g) % 128) ≡ another g ∷ inBits 7 (w / 128 ^ g)
+unfolding inBits odd
+earlier-unit w g h = inBits-cat 1 7 1 (mod-lt (w / 2 ^ (7 * g)) (omega arith)) ∙ ap₂ _∷_ (sym (follows g h)) (group-low w g)
+  where
+    follows : (g : ℕ) → 0 < g → another g ≡ true
+    follows zero h = absurd (omega arith)
+    follows (suc g) h = refl
+
+-- one unit of 8 bits more is written
+pub put-unit : (l : List Bool) (next g w u : ℕ) → next ≤ length l → inBits 8 u ≡ another g ∷ inBits 7 (w / 128 ^ g)
+    → put (put l next (inBits 8 u)) (next + 8) (groups g w) ≡ put l next (groups (suc g) w)
+unfolding groups
+put-unit l next g w u h e =
+    ap (λ (k : ℕ). put (put l next (inBits 8 u)) (next + k) (groups g w)) (sym (length-inBits 8 u))
+    ∙ put-more l next (inBits 8 u) (groups g w) h
+    ∙ ap (λ (x : List Bool). put l next (x ++ groups g w)) e
