@@ -75,7 +75,7 @@ impl BytePos {
 
 impl Cursor {
     pub fn new(at: BitPos, stop: BitPos) -> Cursor
-        ensures { λ r. ⌜ r ≡ record { at = at; stop = stop } ⌝ }
+        ensures { λ r. ⌜ (r ≡ record { at = at; stop = stop }) × (r .at .0 ≡ at .0) × (r .stop .0 ≡ stop .0) ⌝ }
     {
         Cursor { at: at, stop: stop }
     }

@@ -4,6 +4,8 @@ ghost use Prim.Native.Nat.{_+_, _-_, _*_, _/_, _%_, _^_, _≤_, _<_};
 ghost use lib.ListN.{length, take, drop};
 ghost use Rattle.layout.specs.Bits.{bitsOf};
 ghost use Rattle.layout.specs.Laws.Bits.{val};
+use crate::BitPos;
+use crate::BytePos;
 use crate::small::least;
 use crate::small::power;
 use crate::small::wide;
@@ -49,11 +51,12 @@ fn join(n: u64, b: u8) -> u64
     n * 256 + b as u64
 }
 
-// Eight bytes from byte q on.
-fn window(s: &[u8], q: usize) -> u64
-    requires { ⌜ q + 8 ≤ length (now s) ⌝ }
-    ensures { λ r. ⌜ r ≡ val (take 64 (drop (8 * q) (bitsOf (now (s .entry))))) ⌝ }
+// Eight bytes from one on.
+fn window(s: &[u8], first: BytePos) -> u64
+    requires { ⌜ first .0 + 8 ≤ length (now s) ⌝ }
+    ensures { λ r. ⌜ r ≡ val (take 64 (drop (8 * first .0) (bitsOf (now (s .entry))))) ⌝ }
 {
+    let q = first.0;
     let a = join(0, s[q]);
     let b = join(a, s[q + 1]);
     let c = join(b, s[q + 2]);
@@ -68,12 +71,12 @@ pub fn number(s: &[u8], at: usize, width: usize) -> u32
     requires { ⌜ (at + width ≤ 8 * length (now s)) × (width ≤ 32) × (length (now s) ≤ 65536) ⌝ }
     ensures { λ r. ⌜ r ≡ val (take width (drop at (bitsOf (now (s .entry))))) ⌝ }
 {
-    let q = at / 8;
+    let first = BitPos(at).byte();
     if width == 0 {
         return 0;
     }
-    if s.len() < q + 8 {
+    if s.len() < first.0 + 8 {
         return by_bytes(s, at, width);
     }
-    ((window(s, q) << (at % 8)) >> (64 - width)) as u32
+    ((window(s, first) << (at % 8)) >> (64 - width)) as u32
 }

@@ -4,3 +4,4 @@ pub mod Zeros
 pub mod Ranges
 pub mod Readers
 pub mod VariableByte
+pub mod Same

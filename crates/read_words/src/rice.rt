@@ -24,10 +24,11 @@ fn most_after(p: u32, base: u64) -> u64
     requires { ⌜ (0 < p) × (base ≤ 4294967294) ⌝ }
     ensures { λ r. ⌜ (r ≡ min (p - 1) (4294967294 - base)) × (r < p) × (r + base ≤ 4294967294) ⌝ }
 {
-    if ((p - 1) as u64) < 4294967294 - base {
+    let rest = 4294967294 - base;
+    if ((p - 1) as u64) < rest {
         return (p - 1) as u64;
     }
-    4294967294 - base
+    rest
 }
 
 pub fn read(c: Cursor, s: &[u8], k: usize) -> Read

@@ -8,8 +8,9 @@ use native.Mathlib.Omega.{arith}
 use lib.Dec.{T, ltb, ltb→lt, nltb→le}
 use Rattle.format.specs.Codes.{digits}
 use Rattle.format.specs.Interpolative.{width}
--- the table comes first: a definition that no longer gives its numbers is refused there, whatever the proofs below make of it
+-- the table and the worked cases come first: a definition that no longer gives their numbers is refused there, whatever the proofs below make of it
 use Rattle.format.specs.Table
+use Rattle.format.specs.Laws.Cases
 
 -- n has suc m digits of base b
 pub record Held (b n m : ℕ) : Type 0 where

@@ -10,8 +10,9 @@ use Rattle.layout.specs.Laws.Deciding.{Searchable}
 use Rattle.format.specs.Limits.{largestInstant}
 use Rattle.format.specs.Codes.{Word}
 use Rattle.format.specs.Kinds.{Kind, Plain, Instants, Corrections, kindNumber, Family, Unsigned, Signed, familyOf, InRange, natural, NotBelow, Fits, wordOf}
--- the table comes first: a definition that no longer gives its numbers is refused there, whatever the proofs below make of it
+-- the table and the worked cases come first: a definition that no longer gives their numbers is refused there, whatever the proofs below make of it
 use Rattle.format.specs.Table
+use Rattle.format.specs.Laws.Cases
 
 -- ---- values and words
 

@@ -20,6 +20,8 @@ pub record Sound {A : Type 0} (L : Layout A) : Type 0 where
   pub apart : {w : List Bool} {n : ℕ} {u : List Bool} {a : A} {r : List Bool} → L .no w n u → Takes L w a r → ⊥
   -- what stops before its end is answered 6
   pub stopped : {w : List Bool} → Stops (L .ok) (L .bits) w → (u : List Bool) × L .no w 6 u
+  -- what a refusal tells is an end of the bits
+  pub within : {w : List Bool} {n : ℕ} {u : List Bool} → L .no w n u → (x : List Bool) × (w ≡ x ++ u)
 
 module _ {A : Type 0} {L : Layout A} (s : Sound L) where
   pub takes-one : {w r q : List Bool} {a b : A} → Takes L w a r → Takes L w b q → (a ≡ b) × (r ≡ q)
@@ -42,7 +44,7 @@ word-apart {bits = bits} free {w} a r h e t =
     not-end r (t .more) (t .next) (sym (free-splits free a (t .of) h (t .valid) .split (r ++ t .next ∷ t .more) [] f .1))
 
 pub word-sound : {A : Type 0} {ok : A → Type 0} {bits : A → List Bool} → PrefixFree ok bits → Sound (word ok bits)
-word-sound {A} {ok} {bits} free = record { free = free; sole = sole; apart = apart; stopped = λ s. (_, cut s) }
+word-sound {A} {ok} {bits} free = record { free = free; sole = sole; apart = apart; stopped = λ s. (_, cut s); within = within }
   where
     sole : {w : List Bool} {n m : ℕ} {u v : List Bool} → WordNo ok bits w n u → WordNo ok bits w m v → (n ≡ m) × (u ≡ v)
     sole (cut s) (cut t) = (refl, refl)
@@ -54,10 +56,14 @@ word-sound {A} {ok} {bits} free = record { free = free; sole = sole; apart = apa
     apart (cut s) t = word-apart free _ _ (t .valid) (t .front) s
     apart (bad p q) t = p _ _ (t .valid) (t .front)
 
+    within : {w : List Bool} {n : ℕ} {u : List Bool} → WordNo ok bits w n u → (x : List Bool) × (w ≡ x ++ u)
+    within (cut s) = ([], refl)
+    within (bad p q) = ([], refl)
+
 -- ---- a field of fixed width
 
 pub fixed-sound : (w : ℕ) → Sound (fixed w)
-fixed-sound w = record { free = splits-free (λ a b h l. inBits-one w a b h l); sole = sole; apart = apart; stopped = stopped }
+fixed-sound w = record { free = splits-free (λ a b h l. inBits-one w a b h l); sole = sole; apart = apart; stopped = stopped; within = within }
   where
     sole : {l : List Bool} {n m : ℕ} {u v : List Bool} → FixedNo w l n u → FixedNo w l m v → (n ≡ m) × (u ≡ v)
     sole (short h) (short k) = (refl, refl)
@@ -74,6 +80,9 @@ fixed-sound w = record { free = splits-free (λ a b h l. inBits-one w a b h l); 
         let f = length-inBits w (s .of) in
         (l, short (omega arith))
 
+    within : {l : List Bool} {n : ℕ} {u : List Bool} → FixedNo w l n u → (x : List Bool) × (l ≡ x ++ u)
+    within (short h) = ([], refl)
+
 -- ---- what is known
 
 pub known-sound : {A : Type 0} (a : A) → Sound (known a)
@@ -82,13 +91,14 @@ known-sound a = record {
   sole = λ n m. absurd n;
   apart = λ n t. n;
   stopped = λ {w} s. absurd (not-end w (s .more) (s .next) (s .whole));
+  within = λ n. absurd n;
 }
 
 -- ---- a field, and then what its value asks for
 
 module _ {A B : Type 0} {L : Layout A} {M : A → Layout B} (l : Sound L) (m : (a : A) → L .ok a → Sound (M a)) where
   pub bind-sound : Sound (bind L M)
-  bind-sound = record { free = splits-free splits; sole = sole; apart = apart; stopped = stopped }
+  bind-sound = record { free = splits-free splits; sole = sole; apart = apart; stopped = stopped; within = within }
     where
       splits : (p q : A × B) → bind L M .ok p → bind L M .ok q → Splits (bind L M .bits p) (bind L M .bits q) (p ≡ q)
       splits p q hp hq =
@@ -129,6 +139,12 @@ module _ {A B : Type 0} {L : Layout A} {M : A → Layout B} (l : Sound L) (m : (
               let (u, h) = m a (s .valid .0) .stopped (record { of = b; valid = s .valid .1; next = s .next; more = s .more; whole = f }) in
               (u, second a x (record { valid = s .valid .0; front = e }) h)
 
+      within : {w : List Bool} {n : ℕ} {u : List Bool} → BindNo L M w n u → (x : List Bool) × (w ≡ x ++ u)
+      within (first h) = l .within h
+      within {u = u} (second a r t h) =
+          let (x, e) = m a (t .valid) .within h in
+          (L .bits a ++ x, t .front ∙ ap (λ (y : List Bool). L .bits a ++ y) e ∙ sym (append-assoc (L .bits a) x u))
+
 -- ---- other values, written as those of L: `one` says that no two of them are written as the same
 
 abbrev pub Injective : {A B : Type 0} → (B → Type 0) → (B → A) → Type 0
@@ -141,11 +157,12 @@ module _ {A B : Type 0} {good : B → Type 0} {f : B → A} {L : Layout A} (l : 
     sole = l .sole;
     apart = λ x t. l .apart x (record { valid = t .valid .1; front = t .front });
     stopped = λ s. l .stopped (record { of = f (s .of); valid = s .valid .1; next = s .next; more = s .more; whole = s .whole });
+    within = l .within;
   }
 
 module _ {A B : Type 0} {N : ℕ} {good : B → Type 0} {f : B → A} {L : Layout A} (l : Sound L) (one : Injective good f) where
   pub only-sound : Sound (only N good f L)
-  only-sound = record { free = made-sound l one .free; sole = sole; apart = apart; stopped = λ s. let (u, h) = made-sound l one .stopped s in (u, field h) }
+  only-sound = record { free = made-sound l one .free; sole = sole; apart = apart; stopped = λ s. let (u, h) = made-sound l one .stopped s in (u, field h); within = within }
     where
       part : {w : List Bool} {b : B} {r : List Bool} → Takes (only N good f L) w b r → Takes L w (f b) r
       part t = record { valid = t .valid .1; front = t .front }
@@ -159,6 +176,10 @@ module _ {A B : Type 0} {N : ℕ} {good : B → Type 0} {f : B → A} {L : Layou
       apart : {w : List Bool} {n : ℕ} {u : List Bool} {b : B} {r : List Bool} → OnlyNo N good f L w n u → Takes (only N good f L) w b r → ⊥
       apart (field x) t = l .apart x (part t)
       apart (value a r t x) k = x _ (k .valid .0) (sym (takes-one l t (part k) .0))
+
+      within : {w : List Bool} {n : ℕ} {u : List Bool} → OnlyNo N good f L w n u → (x : List Bool) × (w ≡ x ++ u)
+      within (field x) = l .within x
+      within (value a r t x) = ([], refl)
 
 -- ---- values in order
 

@@ -7,7 +7,7 @@ use native.Mathlib.Nat.{zero-add, suc-add, add-zero, add-assoc, lt-of-lt-of-le}
 use native.Mathlib.Omega.{arith}
 use lib.Pow.{pow-mono, shr-shr}
 use lib.ListN.{length, take, drop, length-append, length-take, length-drop, length-replicate, replicate-append-replicate, take-append-drop}
-use lib.Seq.{take-nil, take-take, take-add, drop-drop, take-at, drop-append-add, length-take-le}
+use lib.Seq.{take-nil, take-take, take-add, drop-drop, take-at, drop-at, drop-append-add, length-take-le}
 use Rattle.layout.specs.Bits.{inBits, zeros, put}
 use Rattle.layout.specs.Laws.Bits.{val, val-lt, val-append, length-inBits, inBits-split, inBits-mod, inBits-zero}
 
@@ -45,6 +45,17 @@ length-put l at new h =
     length-append (take at l) (new ++ drop (at + length new) l)
     ∙ ap₂ (λ (a b : ℕ). a + b) (length-take-le at l (omega arith)) (length-append new (drop (at + length new) l) ∙ ap (λ (k : ℕ). length new + k) (length-drop (at + length new) l))
     ∙ omega arith
+
+-- what is put is what stands there
+pub put-window : (l : List Bool) (start : ℕ) (image : List Bool) → start + length image ≤ length l → drop start (take (start + length image) (put l start image)) ≡ image
+unfolding put
+put-window l start image h =
+    let s : length (take start l) ≡ start = length-take-le start l (omega arith) in
+    let e : length (take start l ++ image) ≡ start + length image = length-append (take start l) image ∙ ap (λ (k : ℕ). k + length image) s in
+    let z = drop (start + length image) l in
+    ap (λ (x : List Bool). drop start (take (start + length image) x)) (sym (append-assoc (take start l) image z))
+    ∙ ap (drop start) (take-at (take start l ++ image) z (start + length image) e)
+    ∙ drop-at (take start l) image start s
 
 -- a turn of the loop that writes zeros
 pub put-zeros : (l : List Bool) (at done w : ℕ) → at ≤ length l → put (put l at (zeros done)) (at + done) (inBits w 0) ≡ put l at (zeros (done + w))

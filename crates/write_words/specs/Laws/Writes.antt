@@ -7,11 +7,13 @@ use native.Mathlib.Nat.{zero-add, one-mul, mod-lt, mod-eq-sub-div-mul}
 use native.Mathlib.Omega.{arith}
 use lib.Pow.{pow-pos}
 use lib.ListN.{length, length-append, length-replicate}
-use Rattle.layout.specs.Bits.{odd, inBits, zeros, put}
-use Rattle.layout.specs.Laws.Bits.{length-inBits, inBits-cat, inBits-mod}
+use Rattle.layout.specs.Bits.{odd, inBits, Bytes, zeros, put}
+use Rattle.layout.specs.Laws.Bits.{bytes-one, length-inBits, inBits-cat, inBits-mod}
 use Rattle.layout.specs.Laws.Windows.{put-more}
 use Rattle.format.specs.Codes.{digits, size, binary, gamma, delta, rice, another, groups, variableByte}
 use Rattle.bits.specs.Laws.Length.{power-seven}
+use Rattle.bits.specs.declared.BitPos.{BitPos}
+use Rattle.write_words.specs.Written.{Written}
 
 -- two parts written side by side are one
 pub put-both : {m r : List Bool} (l a b : List Bool) (at n : ℕ) → at ≤ length l → n ≡ length a → m ≡ put l at a → r ≡ put m (at + n) b → r ≡ put l at (a ++ b)
@@ -112,3 +114,9 @@ put-unit l next g w u h e =
     ap (λ (k : ℕ). put (put l next (inBits 8 u)) (next + k) (groups g w)) (sym (length-inBits 8 u))
     ∙ put-more l next (inBits 8 u) (groups g w) h
     ∙ ap (λ (x : List Bool). put l next (x ++ groups g w)) e
+
+-- ---- two outcomes that satisfy a writer's contract are equal
+
+pub written-one : {image : ℕ → List Bool} {w : ℕ} {before after after′ : List ℕ} {at next next′ : BitPos} → Bytes after → Bytes after′
+    → Written image w before at after next → Written image w before at after′ next′ → (after ≡ after′) × (next ≡ next′)
+written-one {after = after} {after′ = after′} h l a b = (bytes-one after after′ h l (a .bits ∙ sym (b .bits)), ap (λ (n : ℕ). record { 0 = n }) (a .told ∙ sym (b .told)))

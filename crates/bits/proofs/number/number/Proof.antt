@@ -14,10 +14,13 @@ use Rattle.bits.proofs.number.number.Lts as lts
 use Rattle.bits.proofs.number.by_bytes.Reads as by-bytes-reads
 use Rattle.bits.proofs.number.window.Reads as window-reads
 
+byte-requires : tie.Need-byte-requires
+byte-requires c κs = search needs
+
 returns : tie.Need-returns
 unfolding val
 returns c =
-    let a = c .before .before .args in
+    let a = c .before .before .before .args in
     let e : 0 ≡ a .width = omega arith in
     ap (λ (m : ℕ). val (take m (drop (a .at) (bitsOf (a .s .now))))) e
 
@@ -43,17 +46,19 @@ shr-result : tie.Need-shr-result
 shr-result c = search needs
 
 value : (c : tie.After-window)
-    → c .window .result * 2 ^ (c .before .before .before .before .args .at % 8) % 2 ^ 64 / 2 ^ (64 - c .before .before .before .before .args .width)
-    ≡ val (take (c .before .before .before .before .args .width) (drop (c .before .before .before .before .args .at) (bitsOf (c .before .before .before .before .args .s .now))))
+    → c .window .result * 2 ^ (c .before .before .before .before .before .before .args .at % 8) % 2 ^ 64 / 2 ^ (64 - c .before .before .before .before .before .before .args .width)
+    ≡ val (take (c .before .before .before .before .before .before .args .width) (drop (c .before .before .before .before .before .before .args .at) (bitsOf (c .before .before .before .before .before .before .args .s .now))))
 value c =
-    let a = c .before .before .before .before .args in
-    let e : 8 * (a .at / 8) + a .at % 8 ≡ a .at = omega arith in
+    let a = c .before .before .before .before .before .before .args in
+    let q = c .before .before .before .before .byte .result .0 in
+    let f : q ≡ a .at / 8 = c .before .before .before .before .byte .ensures in
+    let e : 8 * q + a .at % 8 ≡ a .at = omega arith in
     ap (λ (n : ℕ). n * 2 ^ (a .at % 8) % 2 ^ 64 / 2 ^ (64 - a .width)) (c .window .ensures)
-    ∙ from-window (a .s .now) (a .at / 8) (a .at % 8) (a .width) (omega arith) (omega arith)
+    ∙ from-window (a .s .now) q (a .at % 8) (a .width) (omega arith) (omega arith)
     ∙ ap (λ (n : ℕ). val (take (a .width) (drop n (bitsOf (a .s .now))))) e
 
 cast-result : tie.Need-cast-result
-cast-result c = record { fits = rw (value c) (val-take-lt 32 _ _ (c .before .before .before .before .pre .1)) }
+cast-result c = record { fits = rw (value c) (val-take-lt 32 _ _ (c .before .before .before .before .before .before .pre .1)) }
 
 returns-3 : tie.Need-returns-3
 returns-3 c = value c
@@ -62,6 +67,7 @@ pub number-spec : {M : Type 1} → statement M
 number-spec =
     tie.close
     (tie.spec
+    byte-requires
     returns
     add-if2
     by-bytes-requires

@@ -87,7 +87,7 @@ unfolding val
 returns c =
     let a = c .before .before .before .before .before .before .before .before .before .before .before .before .before .before .before .before .before .args in
     let l = a .s .now in
-    let q = a .q in
+    let q = a .first .0 in
     let by : (i : ℕ) → getD l i 0 < 256 = λ i. omega (arith, c .before .shared-slice-known9 .given i) in
     let z : getD l (q + 0) 0 ≡ getD l q 0 = ap (λ (i : ℕ). getD l i 0) (add-zero q) in
     let e0 = byte-step l q 0 (omega arith) (by (q + 0)) in
