@@ -1,8 +1,8 @@
 -- Bits within a byte, and bytes within a window.
 use mathlib.Core.Path.{_≡_, refl, sym, ap, ap₂, _∙_, subst}
 use mathlib.Core.Bool.{Bool}
-use mathlib.Core.List.{List, [], _∷_, _++_, append-assoc}
-use Prim.Native.Nat.{ℕ, zero, suc, _+_, _-_, _*_, _/_, _%_, _^_, _≤_, _<_}
+use mathlib.Core.List.{List, _∷_, _++_, append-assoc}
+use Prim.Native.Nat.{ℕ, suc, _+_, _-_, _*_, _/_, _%_, _^_, _≤_, _<_}
 use native.Mathlib.Nat.{mod-lt, mod-eq-of-lt, add-assoc, mul-div-mul-right, mul-assoc, div-one, add-mul, mul-add-mod-self-right, mul-lt-mul-of-pos-right}
 use native.Mathlib.Omega.{arith}
 use lib.Arith.{digits-lt}

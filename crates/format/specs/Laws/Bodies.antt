@@ -2,12 +2,12 @@
 -- are those of its kind.
 use mathlib.Core.Path.{_≡_, refl, sym, ap, ap₂, _∙_, subst}
 use mathlib.Core.Bool.{Bool}
-use mathlib.Core.List.{List, [], _∷_, _++_, map}
-use Prim.Native.Nat.{ℕ, zero, suc, _+_, _-_, _≤_, _<_}
+use mathlib.Core.List.{List, [], _∷_, map}
+use Prim.Native.Nat.{ℕ, zero, suc, _-_}
 use native.Mathlib.Omega.{arith}
 use lib.IntN.{ℤ, pos, negsuc}
 use lib.ListN.{length, length-map}
-use Rattle.layout.specs.Layout.{Layout, PrefixFree, word, only, made, chain, All}
+use Rattle.layout.specs.Layout.{Layout, PrefixFree, word, only, chain, All}
 use Rattle.layout.specs.Laws.Sound.{Sound, Injective, word-sound, only-sound, made-sound, chain-sound}
 use Rattle.layout.specs.Laws.Total.{Total, word-total, only-total, made-total, chain-total}
 use Rattle.format.specs.Codes.{Word, gamma, delta, rice, variableByte}

@@ -1,10 +1,10 @@
 -- In each code of a word no word is the beginning of another.
-use mathlib.Core.Path.{_≡_, refl, sym, ap, ap₂, _∙_, subst}
+use mathlib.Core.Path.{_≡_, refl, sym, ap, ap₂, _∙_}
 use mathlib.Core.Logic.{_↔_}
-use mathlib.Core.Bool.{Bool, true, false}
+use mathlib.Core.Bool.{Bool, true}
 use mathlib.Core.List.{List, [], _∷_, _++_, append-assoc}
 use Prim.Native.Nat.{ℕ, zero, suc, _+_, _-_, _*_, _/_, _%_, _^_, _≤_, _<_}
-use native.Mathlib.Nat.{mod-eq-of-lt, div-eq-of-lt-le, mod-mod, mod-eq-sub-div-mul, le-trans, le-refl, div-one, pow-succ', one-le-pow}
+use native.Mathlib.Nat.{mod-eq-of-lt, div-eq-of-lt-le, mod-mod, mod-eq-sub-div-mul, le-trans, div-one, pow-succ', one-le-pow}
 use native.Mathlib.Decide.{decLe}
 use native.Mathlib.Omega.{arith}
 use lib.Arith.{mod-mul}
@@ -12,12 +12,12 @@ use lib.Pow.{split}
 use Rattle.layout.specs.Bits.{odd, inBits, zeros}
 use Rattle.layout.specs.Layout.{PrefixFree, WordNo}
 use Rattle.layout.specs.Dead.{Dies}
-use Rattle.layout.specs.Laws.Beginnings.{Splits, then, implies, free-splits, splits-free}
+use Rattle.layout.specs.Laws.Beginnings.{Splits, then, implies, splits-free}
 use Rattle.layout.specs.Laws.Bits.{inBits-splits}
 use Rattle.layout.specs.Laws.Deciding.{Searchable, up-to, both?}
 use Rattle.layout.specs.Laws.Words.{Decides, decides, bad-where-dead}
 use Rattle.format.specs.Limits.{largestWord}
-use Rattle.format.specs.Codes.{Word, digits, size, binary, gamma, delta, rice, another, groups, variableByte}
+use Rattle.format.specs.Codes.{Word, digits, size, binary, gamma, delta, rice, groups, variableByte}
 use Rattle.format.specs.Laws.Digits.{Held, digits-held, digits-le}
 
 -- ---- the words can be searched

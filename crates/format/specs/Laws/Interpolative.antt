@@ -1,12 +1,12 @@
 -- The interpolative body holds exactly the lists of instants that never fall.
 use mathlib.Core.Path.{_≡_, refl, sym, ap, ap₂, _∙_, subst, subst₂}
 use mathlib.Core.List.{List, [], _∷_, _++_}
-use Prim.Native.Nat.{ℕ, zero, suc, _+_, _-_, _*_, _/_, _≤_, _<_}
+use Prim.Native.Nat.{ℕ, zero, suc, _+_, _-_, _≤_, _<_}
 use native.Mathlib.Nat.{le-refl}
 use native.Mathlib.Omega.{arith}
-use lib.ListN.{length, getD, take, drop, length-append}
+use lib.ListN.{length, getD, take, length-append}
 use lib.Seq.{take-suc, take-all, take-at, getD-at, length-take-le}
-use Rattle.layout.specs.Layout.{Layout, word, known, bind, made}
+use Rattle.layout.specs.Layout.{word, made}
 use Rattle.layout.specs.Laws.Sound.{Sound, Injective, word-sound, known-sound, bind-sound, made-sound}
 use Rattle.layout.specs.Laws.Total.{Total, Source, word-total, known-total, bind-total, made-total}
 use Rattle.format.specs.Limits.{largestInstant}

@@ -1,13 +1,13 @@
 -- A part of the interpolative body: its equation, that it is made of its middle and its halves, and which lists it holds.
 use mathlib.Core.Path.{_≡_, refl, sym, ap, ap₂, _∙_, subst}
 use mathlib.Core.List.{List, [], _∷_, _++_, append-assoc}
-use Prim.Native.Nat.{ℕ, zero, suc, _+_, _-_, _*_, _/_, _^_, _≤_, _<_}
+use Prim.Native.Nat.{ℕ, zero, suc, _+_, _-_, _/_, _≤_, _<_}
 use native.Mathlib.Nat.{le-refl, lt-of-lt-of-le}
 use native.Mathlib.Decide.{decLt}
 use native.Mathlib.Omega.{arith}
 use lib.ListN.{length, getD, take, drop, length-append}
 use lib.Seq.{split-at, take-at, drop-at, getD-at}
-use Rattle.layout.specs.Layout.{Layout, fixed, known, bind, only, made}
+use Rattle.layout.specs.Layout.{Layout, known, bind, made}
 use Rattle.layout.specs.Laws.Sound.{Sound, Injective, fixed-sound, known-sound, bind-sound, only-sound, made-sound}
 use Rattle.layout.specs.Laws.Total.{Total, Source, fixed-total, known-total, bind-total, only-total, made-total}
 use Rattle.format.specs.Limits.{largestWord}

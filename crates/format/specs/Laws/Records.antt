@@ -1,21 +1,17 @@
 -- Records: no record's bits are the beginning of another's, every list of bits has exactly one answer, and the records that are laid
 -- out are those that document 01 calls valid.
-use mathlib.Core.Path.{_≡_, refl, sym, ap, ap₂, _∙_, subst}
-use mathlib.Core.Bool.{Bool}
-use mathlib.Core.List.{List}
+use mathlib.Core.Path.{_≡_, refl, sym, ap, _∙_}
 use Prim.Native.Nat.{ℕ, zero, suc, _+_, _-_, _^_, _≤_, _<_}
 use native.Mathlib.Decide.{decLe, ℕ-discrete}
 use native.Mathlib.Omega.{arith}
-use lib.IntN.{ℤ, pos}
 use lib.ListN.{length}
-use Rattle.layout.specs.Layout.{Layout}
 use Rattle.layout.specs.Laws.Sound.{Sound, Injective, word-sound, fixed-sound, known-sound, bind-sound, only-sound, made-sound}
 use Rattle.layout.specs.Laws.Total.{Total, Source, fixed-total, known-total, bind-total, only-total, made-total}
 use Rattle.layout.specs.Laws.Deciding.{Searchable, both?, implies?}
 use Rattle.format.specs.Limits.{longestList, largestParameter}
 use Rattle.format.specs.Codes.{Word, gamma}
 use Rattle.format.specs.Kinds.{Kind, Plain, Instants, Corrections, kindNumber}
-use Rattle.format.specs.Records.{Code, Gamma, Delta, Rice, VariableByte, Interpolative, codeNumber, Record, Valid, Wanted, Any, This, Wants, Asked, codeField, kindField, parameterField, countField, body, fields, recordFor, anyone, anyRecord}
+use Rattle.format.specs.Records.{Code, Gamma, Delta, Rice, VariableByte, Interpolative, codeNumber, Record, Valid, Wanted, Any, This, Wants, Asked, parameterField, countField, fields, recordFor, anyone, anyRecord}
 use Rattle.format.specs.Laws.Codes.{gamma-free}
 use Rattle.format.specs.Laws.Kinds.{kind-one, kind-is?, kinds-search}
 use Rattle.format.specs.Laws.Bodies.{image-total, body-sound, body-total, body-holds, body-list}

@@ -15,7 +15,7 @@ use Rattle.layout.specs.Laws.Parts.{Parts}
 use Rattle.format.specs.Limits.{largestWord}
 use Rattle.format.specs.Codes.{Word, size, binary, gamma, delta, rice}
 use Rattle.format.specs.Laws.Digits.{Held, held-one, digits-le}
-use Rattle.format.specs.Laws.Codes.{sized, lead, gamma-is, rice-is, gamma-free, run-splits, size-word, below-size}
+use Rattle.format.specs.Laws.Codes.{sized, lead, gamma-is, rice-is, gamma-free, run-splits, below-size}
 use Rattle.read_words.specs.Told.{Upto, run, Among, Upward}
 
 -- ---- gamma of the words from 1 to top

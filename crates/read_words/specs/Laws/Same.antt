@@ -3,14 +3,14 @@
 use mathlib.Core.Path.{_≡_, refl, sym, ap, ap₂, _∙_, subst}
 use mathlib.Core.Bool.{Bool}
 use mathlib.Core.List.{List}
-use Prim.Native.Nat.{ℕ, _≤_}
+use Prim.Native.Nat.{ℕ}
 use native.Mathlib.Omega.{arith}
 use lib.ListN.{length}
 use Rattle.layout.specs.Layout.{PrefixFree, Takes, Stops, word, cut}
 use Rattle.layout.specs.Dead.{Dies}
 use Rattle.layout.specs.Laws.Sound.{takes-one, word-sound, word-apart}
 use Rattle.layout.specs.Laws.Words.{dies-one, dies-bad}
-use Rattle.bits.specs.Cursor.{Within, left, to, Taken}
+use Rattle.bits.specs.Cursor.{Within, left, to}
 use Rattle.bits.specs.Laws.Same.{same-place}
 use Rattle.bits.specs.declared.Cursor.{Cursor}
 use Rattle.read_words.specs.Told as Told

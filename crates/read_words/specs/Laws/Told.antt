@@ -1,15 +1,14 @@
 -- Laws of what readers of words tell.
-use mathlib.Core.Path.{_≡_, refl, sym, ap, ap₂, _∙_, subst, subst₂}
+use mathlib.Core.Path.{_≡_, sym, ap, _∙_, subst, subst₂}
 use mathlib.Core.Bool.{Bool}
-use mathlib.Core.List.{List, _++_}
-use Prim.Native.Nat.{ℕ, _+_, _-_, _*_, _≤_, _<_}
+use mathlib.Core.List.{List}
+use Prim.Native.Nat.{ℕ, _-_, _≤_}
 use native.Mathlib.Omega.{arith}
-use lib.ListN.{length, length-append}
 use Rattle.layout.specs.Bits.{window}
-use Rattle.layout.specs.Layout.{PrefixFree, Takes, Stops, word}
+use Rattle.layout.specs.Layout.{Stops, word}
 use Rattle.layout.specs.Dead.{Dies}
 use Rattle.layout.specs.Laws.Parts.{Parts, first-stops, second-stops, first-dies, second-dies, both-takes}
-use Rattle.bits.specs.Cursor.{Within, left, to, Taken}
+use Rattle.bits.specs.Cursor.{left, to, Taken}
 use Rattle.bits.specs.declared.BitPos.{BitPos}
 use Rattle.bits.specs.declared.Cursor.{Cursor}
 use Rattle.read_words.specs.Told.{ToldWord, took, cut, bad}

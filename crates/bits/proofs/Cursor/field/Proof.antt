@@ -1,16 +1,10 @@
-use mathlib.Core.Path.{_≡_, sym, ap, _∙_}
-use Prim.Native.Nat.{ℕ, _-_, _<_, _≤_}
-use Rattle.bits.specs.Cursor.{Taken, took, cut}
+use Prim.Native.Nat.{_-_}
+use Rattle.bits.specs.Cursor.{took, cut}
 use Rattle.bits.specs.Laws.Cursor.{field-took, field-cut}
 use native.Mathlib.Omega.{arith}
 use borrow.Author.Needs.{needs}
 use Rattle.bits.proofs.Cursor.field.Statement.{statement}
 use Rattle.bits.proofs.Cursor.field.Tie as tie
-use Rattle.bits.proofs.Cursor.field.Reads as reads
-use Rattle.bits.proofs.Cursor.field.Lts as lts
-use Rattle.bits.proofs.Cursor.left.Reads as left-reads
-use Rattle.bits.proofs.Cursor.on.Reads as on-reads
-use Rattle.bits.proofs.number.number.Reads as number-reads
 
 left-requires : tie.Need-left-requires
 left-requires c κs = search needs

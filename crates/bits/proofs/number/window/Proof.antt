@@ -1,17 +1,13 @@
 use native.Mathlib.Nat.{add-zero}
-use mathlib.Core.Path.{_≡_, _∙_, sym, ap}
-use Prim.Native.Nat.{ℕ, _+_, _-_, _*_, _/_, _%_, _^_, _≤_, _<_}
-use lib.ListN.{length, take, drop, getD}
-use Rattle.layout.specs.Bits.{bitsOf}
+use mathlib.Core.Path.{_≡_, ap}
+use Prim.Native.Nat.{ℕ, _+_, _-_, _<_}
+use lib.ListN.{getD}
 use Rattle.layout.specs.Laws.Bits.{val}
 use Rattle.bits.specs.Laws.Bytes.{byte-step}
 use native.Mathlib.Omega.{arith}
 use borrow.Author.Needs.{needs}
 use Rattle.bits.proofs.number.window.Statement.{statement}
 use Rattle.bits.proofs.number.window.Tie as tie
-use Rattle.bits.proofs.number.window.Reads as reads
-use Rattle.bits.proofs.number.window.Lts as lts
-use Rattle.bits.proofs.number.join.Reads as join-reads
 
 shared-slice-read-join : tie.Need-shared-slice-read-join
 shared-slice-read-join c = search needs

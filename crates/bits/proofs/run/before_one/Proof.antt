@@ -3,8 +3,6 @@ use borrow.Author.Needs.{needs}
 use native.Mathlib.Omega.{arith}
 use Rattle.bits.proofs.run.before_one.Statement.{statement}
 use Rattle.bits.proofs.run.before_one.Tie as tie
-use Rattle.bits.proofs.run.before_one.Reads as reads
-use Rattle.bits.proofs.run.before_one.Lts as lts
 
 cast-result : tie.Need-cast-result
 cast-result c = let f = before-first (c .args .n) (c .args .m) (c .pre .0) (c .pre .1) (c .pre .2) in omega (arith, f .1)

@@ -2,21 +2,15 @@ use mathlib.Core.Bool.{Bool}
 use mathlib.Core.List.{List}
 use native.Mathlib.Nat.{div-one}
 use mathlib.Core.Path.{_≡_, _∙_, sym, ap, refl}
-use Prim.Native.Nat.{ℕ, _+_, _-_, _*_, _/_, _%_, _^_, _≤_, _<_}
-use lib.ListN.{length, take, drop}
+use Prim.Native.Nat.{ℕ, _+_, _-_, _/_, _%_, _^_, _≤_}
+use lib.ListN.{length}
 use Rattle.layout.specs.Bits.{bitsOf, inBits, put}
-use Rattle.layout.specs.Laws.Bits.{val}
 use Rattle.layout.specs.Laws.Bits.{length-bitsOf}
 use Rattle.layout.specs.Laws.Windows as laws
 use borrow.Author.Needs.{needs}
 use native.Mathlib.Omega.{arith}
 use Rattle.bits.proofs.write.field.Statement.{statement}
 use Rattle.bits.proofs.write.field.Tie as tie
-use Rattle.bits.proofs.write.field.Reads as reads
-use Rattle.bits.proofs.write.field.Lts as lts
-use Rattle.bits.proofs.small.least.Reads as least-reads
-use Rattle.bits.proofs.number.part.Reads as part-reads
-use Rattle.bits.proofs.write.within_byte.Reads as within-byte-reads
 
 abbrev Inv-loop : tie.InvT-loop
 Inv-loop buf₀ at width value done₀ buf done = (done ≤ width) × (length buf ≡ length buf₀) × (bitsOf buf ≡ put (bitsOf buf₀) at (inBits done (value / 2 ^ (width - done))))

@@ -6,9 +6,6 @@ use native.Mathlib.Omega.{arith}
 use borrow.Author.Needs.{needs}
 use Rattle.bits.proofs.write.patch.Statement.{statement}
 use Rattle.bits.proofs.write.patch.Tie as tie
-use Rattle.bits.proofs.write.patch.Reads as reads
-use Rattle.bits.proofs.write.patch.Lts as lts
-use Rattle.bits.proofs.small.power.Reads as power-reads
 
 power-requires : tie.Need-power-requires
 power-requires c κs = search needs

@@ -1,15 +1,11 @@
 use mathlib.Core.Path.{_≡_, _∙_, ap}
-use Prim.Native.Nat.{ℕ, _+_, _-_, _*_, _/_, _%_, _<_}
+use Prim.Native.Nat.{ℕ, _+_, _-_, _*_, _/_, _%_}
 use Rattle.layout.specs.Bits.{bitsOf, inBits, put}
-use Rattle.bits.specs.Laws.Bytes.{patched}
 use Rattle.bits.specs.Laws.Bytes.{chunk-write}
 use native.Mathlib.Omega.{arith}
 use borrow.Author.Needs.{needs}
 use Rattle.bits.proofs.write.within_byte.Statement.{statement}
 use Rattle.bits.proofs.write.within_byte.Tie as tie
-use Rattle.bits.proofs.write.within_byte.Reads as reads
-use Rattle.bits.proofs.write.within_byte.Lts as lts
-use Rattle.bits.proofs.write.patch.Reads as patch-reads
 
 sub-k : tie.Need-sub-k
 sub-k c = search needs

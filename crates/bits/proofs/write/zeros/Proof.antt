@@ -1,7 +1,7 @@
 use mathlib.Core.Path.{_≡_, refl, sym, ap, _∙_}
 use mathlib.Core.Bool.{Bool}
 use mathlib.Core.List.{List}
-use Prim.Native.Nat.{ℕ, _+_, _-_, _*_, _≤_, _<_}
+use Prim.Native.Nat.{ℕ, _+_, _-_, _≤_}
 use lib.ListN.{length}
 use Rattle.layout.specs.Bits.{inBits, zeros, bitsOf, put}
 use Rattle.layout.specs.Laws.Bits.{length-bitsOf}
@@ -10,10 +10,6 @@ use borrow.Author.Needs.{needs}
 use native.Mathlib.Omega.{arith}
 use Rattle.bits.proofs.write.zeros.Statement.{statement}
 use Rattle.bits.proofs.write.zeros.Tie as tie
-use Rattle.bits.proofs.write.zeros.Reads as reads
-use Rattle.bits.proofs.write.zeros.Lts as lts
-use Rattle.bits.proofs.small.least.Reads as least-reads
-use Rattle.bits.proofs.write.field.Reads as field-reads
 
 abbrev Inv-loop : tie.InvT-loop
 Inv-loop buf₀ at count done₀ buf done = (done ≤ count) × (length buf ≡ length buf₀) × (bitsOf buf ≡ put (bitsOf buf₀) at (zeros done))

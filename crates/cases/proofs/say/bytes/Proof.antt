@@ -1,7 +1,6 @@
 use Prim.Native.Nat.{_-_, _≤_}
 use lib.ListN.{length}
 use borrow.Author.Needs.{needs}
-use native.Mathlib.Omega.{arith}
 use Rattle.cases.proofs.say.bytes.Statement.{statement}
 use Rattle.cases.proofs.say.bytes.Tie as tie
 

@@ -1,6 +1,5 @@
-use mathlib.Core.Path.{_≡_, refl, sym, ap, _∙_, subst, subst₂}
-use Prim.Native.Nat.{ℕ, _+_, _-_, _*_, _/_, _^_, _≤_, _<_, min}
-use lib.Pow.{pow-mono, pow-pos}
+use mathlib.Core.Path.{_≡_, ap, _∙_, subst₂}
+use Prim.Native.Nat.{ℕ, _-_, _*_, _^_}
 use Rattle.layout.specs.Bits.{inBits}
 use Rattle.layout.specs.Layout.{Stops, word}
 use Rattle.layout.specs.Dead.{Dies}
@@ -13,11 +12,6 @@ use native.Mathlib.Omega.{arith}
 use borrow.Author.Needs.{needs}
 use Rattle.read_words.proofs.delta.read.Statement.{statement}
 use Rattle.read_words.proofs.delta.read.Tie as tie
-use Rattle.read_words.proofs.delta.read.Reads as reads
-use Rattle.read_words.proofs.delta.read.Lts as lts
-use Rattle.bits.proofs.small.power.Reads as power-reads
-use Rattle.read_words.proofs.gamma.read_upto.Reads as read-upto-reads
-use Rattle.read_words.proofs.parts.between.Reads as between-reads
 
 read-upto-requires : tie.Need-read-upto-requires
 read-upto-requires c κs = search needs

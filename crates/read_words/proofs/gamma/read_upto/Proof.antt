@@ -1,23 +1,17 @@
-use mathlib.Core.Path.{_≡_, refl, sym, ap, _∙_, subst}
-use Prim.Native.Nat.{ℕ, _+_, _-_, _*_, _/_, _^_, _≤_, _<_, min}
-use lib.Pow.{pow-mono, pow-pos}
+use mathlib.Core.Path.{_≡_, ap, _∙_, subst}
+use Prim.Native.Nat.{ℕ, _+_, _-_, _^_, _≤_, _<_, min}
+use lib.Pow.{pow-mono}
 use Rattle.layout.specs.Bits.{inBits}
 use Rattle.layout.specs.Layout.{Stops, word}
 use Rattle.layout.specs.Dead.{Dies}
 use Rattle.bits.specs.Cursor.{left, to, Taken}
-use Rattle.read_words.specs.Told.{Upto, run, Among, Upward}
+use Rattle.read_words.specs.Told.{Upto, run, Among}
 use Rattle.read_words.specs.Laws.Told.{was-taken, was-cut, was-bad, first-cut, first-bad, second-cut, second-bad, both-took}
 use Rattle.read_words.specs.Laws.Readers.{gamma-parts, gamma-made}
 use native.Mathlib.Omega.{arith}
 use borrow.Author.Needs.{needs}
 use Rattle.read_words.proofs.gamma.read_upto.Statement.{statement}
 use Rattle.read_words.proofs.gamma.read_upto.Tie as tie
-use Rattle.read_words.proofs.gamma.read_upto.Reads as reads
-use Rattle.read_words.proofs.gamma.read_upto.Lts as lts
-use Rattle.bits.proofs.small.power.Reads as power-reads
-use Rattle.read_words.proofs.gamma.most_after.Reads as most-after-reads
-use Rattle.read_words.proofs.parts.between.Reads as between-reads
-use Rattle.read_words.proofs.parts.zeros.Reads as zeros-reads
 
 zeros-requires : tie.Need-zeros-requires
 zeros-requires c κs = search needs

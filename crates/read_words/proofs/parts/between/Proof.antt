@@ -1,22 +1,15 @@
-use mathlib.Core.Path.{_≡_, refl, sym, ap, _∙_, subst}
+use mathlib.Core.Path.{_≡_, ap, _∙_}
 use mathlib.Core.Logic.{inl, inr}
-use Prim.Native.Nat.{ℕ, _-_, _/_, _^_, _≤_, _<_, min}
+use Prim.Native.Nat.{_-_, _/_, _^_, _≤_, min}
 use native.Mathlib.Nat.{div-one}
 use Rattle.layout.specs.Layout.{fixed}
-use Rattle.bits.specs.Cursor.{Taken, Refuses}
+use Rattle.bits.specs.Cursor.{Taken}
 use Rattle.bits.specs.Laws.Cursor.{field-taken, field-refused}
 use Rattle.read_words.specs.Laws.Ranges.{range-took, range-cut, range-bad, live-less}
 use native.Mathlib.Omega.{arith}
 use borrow.Author.Needs.{needs}
 use Rattle.read_words.proofs.parts.between.Statement.{statement}
 use Rattle.read_words.proofs.parts.between.Tie as tie
-use Rattle.read_words.proofs.parts.between.Reads as reads
-use Rattle.read_words.proofs.parts.between.Lts as lts
-use Rattle.bits.proofs.Cursor.ahead.Reads as ahead-reads
-use Rattle.bits.proofs.Cursor.field.Reads as field-reads
-use Rattle.bits.proofs.Cursor.left.Reads as left-reads
-use Rattle.bits.proofs.small.least.Reads as least-reads
-use Rattle.read_words.proofs.parts.live.Reads as live-reads
 
 left-requires : tie.Need-left-requires
 left-requires c κs = search needs

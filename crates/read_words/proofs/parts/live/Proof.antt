@@ -1,12 +1,10 @@
 use mathlib.Core.Logic.{inl, inr}
-use Prim.Native.Nat.{_-_, _≤_}
+use Prim.Native.Nat.{_-_}
 use Rattle.read_words.specs.Laws.Ranges.{LiveTo, live-none, live-more, live-upto, live-all}
 use borrow.Author.Needs.{needs}
 use native.Mathlib.Omega.{arith}
 use Rattle.read_words.proofs.parts.live.Statement.{statement}
 use Rattle.read_words.proofs.parts.live.Tie as tie
-use Rattle.read_words.proofs.parts.live.Reads as reads
-use Rattle.read_words.proofs.parts.live.Lts as lts
 
 abbrev Inv-loop : tie.InvT-loop
 Inv-loop v w n lo hi j₀ j = LiveTo v w n lo hi j

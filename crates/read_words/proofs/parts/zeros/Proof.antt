@@ -3,12 +3,6 @@ use native.Mathlib.Omega.{arith}
 use borrow.Author.Needs.{needs}
 use Rattle.read_words.proofs.parts.zeros.Statement.{statement}
 use Rattle.read_words.proofs.parts.zeros.Tie as tie
-use Rattle.read_words.proofs.parts.zeros.Reads as reads
-use Rattle.read_words.proofs.parts.zeros.Lts as lts
-use Rattle.bits.proofs.Cursor.ahead.Reads as ahead-reads
-use Rattle.bits.proofs.Cursor.left.Reads as left-reads
-use Rattle.bits.proofs.Cursor.on.Reads as on-reads
-use Rattle.bits.proofs.Cursor.zeros.Reads as zeros-reads
 
 left-requires : tie.Need-left-requires
 left-requires c κs = search needs

@@ -4,8 +4,6 @@ use native.Mathlib.Omega.{arith}
 use borrow.Author.Needs.{needs}
 use Rattle.read_words.proofs.rice.most_zeros.Statement.{statement}
 use Rattle.read_words.proofs.rice.most_zeros.Tie as tie
-use Rattle.read_words.proofs.rice.most_zeros.Reads as reads
-use Rattle.read_words.proofs.rice.most_zeros.Lts as lts
 
 div-result : tie.Need-div-result
 div-result c = search needs

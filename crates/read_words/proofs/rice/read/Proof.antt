@@ -1,6 +1,5 @@
-use mathlib.Core.Path.{_≡_, refl, sym, ap, _∙_, subst, subst₂}
+use mathlib.Core.Path.{_≡_, ap, _∙_, subst}
 use Prim.Native.Nat.{ℕ, _+_, _-_, _*_, _/_, _^_, _≤_, _<_, min}
-use lib.Pow.{pow-mono, pow-pos}
 use Rattle.layout.specs.Bits.{inBits}
 use Rattle.layout.specs.Layout.{Stops, word}
 use Rattle.layout.specs.Dead.{Dies}
@@ -12,13 +11,6 @@ use native.Mathlib.Omega.{arith}
 use borrow.Author.Needs.{needs}
 use Rattle.read_words.proofs.rice.read.Statement.{statement}
 use Rattle.read_words.proofs.rice.read.Tie as tie
-use Rattle.read_words.proofs.rice.read.Reads as reads
-use Rattle.read_words.proofs.rice.read.Lts as lts
-use Rattle.bits.proofs.small.power.Reads as power-reads
-use Rattle.read_words.proofs.parts.between.Reads as between-reads
-use Rattle.read_words.proofs.parts.zeros.Reads as zeros-reads
-use Rattle.read_words.proofs.rice.most_after.Reads as most-after-reads
-use Rattle.read_words.proofs.rice.most_zeros.Reads as most-zeros-reads
 
 power-requires : tie.Need-power-requires
 power-requires c κs = search needs

@@ -10,10 +10,6 @@ use Rattle.read_words.specs.Laws.Told.{was-taken, was-cut, was-bad}
 use Rattle.read_words.specs.Laws.VariableByte.{FlagAndGroup, NextGroup, Reached, start, unit-cut, unit-bad, last, next}
 use Rattle.read_words.proofs.variable_byte.read.Statement.{statement}
 use Rattle.read_words.proofs.variable_byte.read.Tie as tie
-use Rattle.read_words.proofs.variable_byte.read.Reads as reads
-use Rattle.read_words.proofs.variable_byte.read.Lts as lts
-use Rattle.read_words.proofs.variable_byte.none.Reads as none-reads
-use Rattle.read_words.proofs.variable_byte.unit.Reads as unit-reads
 
 abbrev Inv-loop : tie.InvT-loop
 Inv-loop s acc₀ d₀ acc d = Reached s d₀ acc d

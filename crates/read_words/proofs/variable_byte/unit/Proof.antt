@@ -8,9 +8,6 @@ use Rattle.read_words.specs.Laws.VariableByte.{unit-parts, unit-took}
 use borrow.Author.Needs.{needs}
 use Rattle.read_words.proofs.variable_byte.unit.Statement.{statement}
 use Rattle.read_words.proofs.variable_byte.unit.Tie as tie
-use Rattle.read_words.proofs.variable_byte.unit.Reads as reads
-use Rattle.read_words.proofs.variable_byte.unit.Lts as lts
-use Rattle.read_words.proofs.parts.between.Reads as between-reads
 
 abbrev start : tie.After-between → tie.Start
 start b = b .before .before
