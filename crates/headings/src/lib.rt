@@ -1,0 +1,109 @@
+// A record's heading: the chosen code, which carries its parameter where it has one, and the kind of list.
+ghost use mathlib.Core.Path.{_≡_};
+ghost use Rattle.headings.specs.Headings.{familyIf, ToldCode, ToldKind, Chooses};
+
+pub enum Code {
+    Gamma,
+    Delta,
+    Rice(u32),
+    VariableByte,
+    Interpolative,
+}
+
+pub enum Kind {
+    Plain,
+    Instants,
+    Corrections,
+}
+
+pub struct Heading {
+    pub code: Code,
+    pub kind: Kind,
+}
+
+// The code of a number and a parameter.
+pub enum CodeChoice {
+    Is(Code),
+    Unknown,
+}
+
+// The kind of a number, in one of the two families.
+pub enum KindChoice {
+    Is(Kind),
+    Unknown,
+}
+
+// The heading that a caller asks for.
+pub enum Choice {
+    Is(Heading),
+    Unknown,
+}
+
+fn code_of(code: u32, parameter: u32) -> CodeChoice
+    ensures { λ r. ⌜ ToldCode code parameter r ⌝ }
+{
+    if code == 1 {
+        return CodeChoice::Is(Code::Gamma);
+    }
+    if code == 2 {
+        return CodeChoice::Is(Code::Delta);
+    }
+    if code == 3 {
+        if 31 < parameter {
+            return CodeChoice::Unknown;
+        }
+        return CodeChoice::Is(Code::Rice(parameter));
+    }
+    if code == 4 {
+        return CodeChoice::Is(Code::VariableByte);
+    }
+    if code == 5 {
+        return CodeChoice::Is(Code::Interpolative);
+    }
+    CodeChoice::Unknown
+}
+
+fn kind_of(signed: bool, kind: u32) -> KindChoice
+    ensures { λ r. ⌜ ToldKind (familyIf signed) kind r ⌝ }
+{
+    if signed {
+        if kind == 2 {
+            return KindChoice::Is(Kind::Corrections);
+        }
+        return KindChoice::Unknown;
+    }
+    if kind == 0 {
+        return KindChoice::Is(Kind::Plain);
+    }
+    if kind == 1 {
+        return KindChoice::Is(Kind::Instants);
+    }
+    KindChoice::Unknown
+}
+
+// Both, where the interpolative code goes with instants.
+fn both(signed: bool, code: u32, parameter: u32, kind: u32) -> Choice
+    requires { ⌜ (code ≡ 5 → kind ≡ 1) ⌝ }
+    ensures { λ r. ⌜ Chooses (familyIf signed) code parameter kind r ⌝ }
+{
+    match code_of(code, parameter) {
+        CodeChoice::Is(c) => match kind_of(signed, kind) {
+            KindChoice::Is(t) => Choice::Is(Heading { code: c, kind: t }),
+            KindChoice::Unknown => Choice::Unknown,
+        },
+        CodeChoice::Unknown => Choice::Unknown,
+    }
+}
+
+// What a writer is told: the entry's family, and three numbers.
+pub fn choose(signed: bool, code: u32, parameter: u32, kind: u32) -> Choice
+    ensures { λ r. ⌜ Chooses (familyIf signed) code parameter kind r ⌝ }
+{
+    if code != 5 {
+        return both(signed, code, parameter, kind);
+    }
+    if kind != 1 {
+        return Choice::Unknown;
+    }
+    both(signed, code, parameter, kind)
+}
