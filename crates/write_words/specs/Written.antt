@@ -14,7 +14,7 @@ pub record Room (image : ℕ → List Bool) (w : ℕ) (buf : List ℕ) (at : Bit
   pub fits : at .0 + length (image w) ≤ 8 * length buf
   pub small : length buf ≤ 65536
 
--- its bits stand there, no other bit has changed, and next is the bit after them
-pub record Written (image : ℕ → List Bool) (w : ℕ) (before : List ℕ) (at : BitPos) (after : List ℕ) (next : BitPos) : Type 0 where
-  pub bits : bitsOf after ≡ put (bitsOf before) (at .0) (image w)
-  pub told : next .0 ≡ at .0 + length (image w)
+-- a value's bits stand there, no other bit has changed, and next is the bit after them
+pub record Written {A : Type 0} (image : A → List Bool) (a : A) (before : List ℕ) (at : BitPos) (after : List ℕ) (next : BitPos) : Type 0 where
+  pub bits : bitsOf after ≡ put (bitsOf before) (at .0) (image a)
+  pub told : next .0 ≡ at .0 + length (image a)

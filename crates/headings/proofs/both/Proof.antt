@@ -1,5 +1,4 @@
 use Rattle.headings.specs.Laws.Choices.{heading-is, code-unknown, kind-unknown}
-use native.Mathlib.Omega.{arith}
 use borrow.Author.Needs.{needs}
 use Rattle.headings.proofs.both.Statement.{statement}
 use Rattle.headings.proofs.both.Tie as tie

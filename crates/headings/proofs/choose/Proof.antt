@@ -1,5 +1,4 @@
 use Rattle.headings.specs.Laws.Choices.{not-instants}
-use native.Mathlib.Omega.{arith}
 use borrow.Author.Needs.{needs}
 use Rattle.headings.proofs.choose.Statement.{statement}
 use Rattle.headings.proofs.choose.Tie as tie

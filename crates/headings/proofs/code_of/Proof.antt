@@ -1,6 +1,5 @@
 use Rattle.headings.specs.Laws.Choices.{gamma-is, delta-is, rice-is, rice-over, variable-byte-is, interpolative-is, no-code}
 use borrow.Author.Needs.{needs}
-use native.Mathlib.Omega.{arith}
 use Rattle.headings.proofs.code_of.Statement.{statement}
 use Rattle.headings.proofs.code_of.Tie as tie
 

@@ -1,6 +1,5 @@
 use Rattle.headings.specs.Laws.Choices.{plain-is, instants-is, corrections-is, not-signed, not-unsigned}
 use borrow.Author.Needs.{needs}
-use native.Mathlib.Omega.{arith}
 use Rattle.headings.proofs.kind_of.Statement.{statement}
 use Rattle.headings.proofs.kind_of.Tie as tie
 

@@ -9,7 +9,7 @@ use Rattle.format.specs.Kinds.{Family, Unsigned, Signed, kindNumber}
 use Rattle.format.specs.Records as Records
 use Rattle.format.specs.Records.{codeNumber}
 use Rattle.format.specs.Answers.{Told}
-use Rattle.format.specs.Writing.{parameterOf, Chosen}
+use Rattle.format.specs.Writing.{parameterOf}
 use Rattle.headings.specs.declared.Code.{Code}
 use Rattle.headings.specs.declared.Code.the-variants.{Gamma, Delta, Rice, VariableByte, Interpolative}
 use Rattle.headings.specs.declared.Kind.{Kind}
@@ -20,7 +20,7 @@ use Rattle.headings.specs.declared.KindChoice.{KindChoice}
 use Rattle.headings.specs.declared.KindChoice.the-variants as OfKind
 use Rattle.headings.specs.declared.Choice.the-variants as OfHeading
 use Rattle.headings.specs.Headings as Headings
-use Rattle.headings.specs.Headings.{codeOf, kindOf, familyIf, CodeIs, ToldCode, ToldKind, HeadingIs, Chooses}
+use Rattle.headings.specs.Headings.{codeOf, kindOf, familyIf, ToldCode, ToldKind, Chooses}
 
 -- ---- the code
 

@@ -117,6 +117,6 @@ put-unit l next g w u h e =
 
 -- ---- two outcomes that satisfy a writer's contract are equal
 
-pub written-one : {image : ℕ → List Bool} {w : ℕ} {before after after′ : List ℕ} {at next next′ : BitPos} → Bytes after → Bytes after′
-    → Written image w before at after next → Written image w before at after′ next′ → (after ≡ after′) × (next ≡ next′)
-written-one {after = after} {after′ = after′} h l a b = (bytes-one after after′ h l (a .bits ∙ sym (b .bits)), ap (λ (n : ℕ). record { 0 = n }) (a .told ∙ sym (b .told)))
+pub written-one : {A : Type 0} {image : A → List Bool} {a : A} {before after after′ : List ℕ} {at next next′ : BitPos} → Bytes after → Bytes after′
+    → Written image a before at after next → Written image a before at after′ next′ → (after ≡ after′) × (next ≡ next′)
+written-one {after = after} {after′ = after′} h l x y = (bytes-one after after′ h l (x .bits ∙ sym (y .bits)), ap (λ (n : ℕ). record { 0 = n }) (x .told ∙ sym (y .told)))

@@ -1,4 +1,3 @@
-use Prim.Native.Nat.{ℕ}
 use native.Mathlib.Omega.{arith}
 use borrow.Author.Needs.{needs}
 use Rattle.write_words.specs.declared.Words.the-variants.{Gamma, Delta, Rice, VariableByte}

@@ -1,6 +1,5 @@
 use Rattle.write_words.specs.declared.Words.the-variants.{Gamma, Delta, Rice, VariableByte}
 use Rattle.write_words.specs.Laws.ByCode.{rice-known, room, wrote}
-use native.Mathlib.Omega.{arith}
 use borrow.Author.Needs.{needs}
 use Rattle.write_words.proofs.by_code.write.Statement.{statement}
 use Rattle.write_words.proofs.by_code.write.Tie as tie

@@ -1,0 +1,3 @@
+// The body of a record that is written word by word: its bits counted, and written.
+pub mod signed;
+pub mod unsigned;
