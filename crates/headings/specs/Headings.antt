@@ -37,6 +37,14 @@ carried (Rice k) = k
 carried VariableByte = 0
 carried Interpolative = 0
 
+-- "for Rice k in 5"
+abbrev pub carriedWidth : Code → ℕ
+carriedWidth Gamma = 0
+carriedWidth Delta = 0
+carriedWidth (Rice k) = 5
+carriedWidth VariableByte = 0
+carriedWidth Interpolative = 0
+
 abbrev pub kindOf : Kind → Kinds.Kind
 kindOf Plain = Kinds.Plain
 kindOf Instants = Kinds.Instants

@@ -1,6 +1,9 @@
 // A record's heading: the chosen code, which carries its parameter where it has one, and the kind of list.
 ghost use mathlib.Core.Path.{_≡_};
-ghost use Rattle.headings.specs.Headings.{familyIf, ToldCode, ToldKind, Chooses};
+ghost use Prim.Native.Nat.{_≤_};
+ghost use Rattle.format.specs.Kinds.{kindNumber};
+ghost use Rattle.format.specs.Records.{codeNumber};
+ghost use Rattle.headings.specs.Headings.{codeOf, carried, carriedWidth, kindOf, familyIf, ToldCode, ToldKind, Chooses};
 
 pub enum Code {
     Gamma,
@@ -106,4 +109,52 @@ pub fn choose(signed: bool, code: u32, parameter: u32, kind: u32) -> Choice
         return Choice::Unknown;
     }
     both(signed, code, parameter, kind)
+}
+
+pub fn code_number(code: Code) -> u32
+    ensures { λ r. ⌜ (r ≡ codeNumber (codeOf code)) × (r ≤ 5) ⌝ }
+{
+    match code {
+        Code::Gamma => 1,
+        Code::Delta => 2,
+        Code::Rice(_) => 3,
+        Code::VariableByte => 4,
+        Code::Interpolative => 5,
+    }
+}
+
+// The parameter that is told: 0 for a code that has none.
+pub fn parameter(code: Code) -> u32
+    ensures { λ r. ⌜ r ≡ carried code ⌝ }
+{
+    match code {
+        Code::Gamma => 0,
+        Code::Delta => 0,
+        Code::Rice(k) => k,
+        Code::VariableByte => 0,
+        Code::Interpolative => 0,
+    }
+}
+
+// In how many bits the parameter is written.
+pub fn parameter_width(code: Code) -> usize
+    ensures { λ r. ⌜ (r ≡ carriedWidth code) × (r ≤ 5) ⌝ }
+{
+    match code {
+        Code::Gamma => 0,
+        Code::Delta => 0,
+        Code::Rice(_) => 5,
+        Code::VariableByte => 0,
+        Code::Interpolative => 0,
+    }
+}
+
+pub fn kind_number(kind: Kind) -> u32
+    ensures { λ r. ⌜ (r ≡ kindNumber (kindOf kind)) × (r ≤ 2) ⌝ }
+{
+    match kind {
+        Kind::Plain => 0,
+        Kind::Instants => 1,
+        Kind::Corrections => 2,
+    }
 }

@@ -1,0 +1,59 @@
+//! What a caller chooses for a record, judged from bare numbers.
+
+use super::kinds::Kind;
+
+/// Plain and instants share one entry, corrections have their own.
+#[derive(Clone, Copy, Debug, PartialEq, Eq)]
+pub enum Entry {
+    Unsigned,
+    Corrections,
+}
+
+#[derive(Clone, Copy, Debug, PartialEq, Eq)]
+pub enum Code {
+    Gamma,
+    Delta,
+    Rice(u32),
+    VariableByte,
+    Interpolative,
+}
+
+impl Code {
+    pub fn number(self) -> u32 {
+        match self {
+            Code::Gamma => 1,
+            Code::Delta => 2,
+            Code::Rice(_) => 3,
+            Code::VariableByte => 4,
+            Code::Interpolative => 5,
+        }
+    }
+}
+
+#[derive(Clone, Copy, Debug, PartialEq, Eq)]
+pub struct Heading {
+    pub code: Code,
+    pub kind: Kind,
+}
+
+/// The heading these numbers choose, or nothing where the writer says 4.
+pub fn chosen(entry: Entry, code: u32, parameter: u32, kind: u32) -> Option<Heading> {
+    let code = match code {
+        1 => Code::Gamma,
+        2 => Code::Delta,
+        3 if parameter <= 31 => Code::Rice(parameter),
+        4 => Code::VariableByte,
+        5 => Code::Interpolative,
+        _ => return None,
+    };
+    let kind = match (entry, kind) {
+        (Entry::Unsigned, 0) => Kind::Plain,
+        (Entry::Unsigned, 1) => Kind::Instants,
+        (Entry::Corrections, 2) => Kind::Corrections,
+        _ => return None,
+    };
+    if code == Code::Interpolative && kind != Kind::Instants {
+        return None;
+    }
+    Some(Heading { code, kind })
+}
