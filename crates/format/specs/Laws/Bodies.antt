@@ -58,7 +58,7 @@ naturals-back : (ns : List ℕ) → All NotNegative (map pos ns) × (map natural
 naturals-back [] = (tt, refl)
 naturals-back (n ∷ ns) = let (h, e) = naturals-back ns in ((tt, h), ap (λ (l : List ℕ). n ∷ l) e)
 
-instants-never : (p : ℤ) (vs : List ℤ) → ListOf Instants p vs → All NotNegative vs × NeverFalls (natural p) (map natural vs)
+pub instants-never : (p : ℤ) (vs : List ℤ) → ListOf Instants p vs → All NotNegative vs × NeverFalls (natural p) (map natural vs)
 instants-never p [] h = (tt, tt)
 instants-never p (pos n ∷ vs) h = let (a, b) = instants-never (pos n) vs (h .1) in ((tt, a), (omega (arith, h .0 .1), h .0 .0, b))
 instants-never p (negsuc n ∷ vs) h = absurd (h .0 .0)

@@ -1,0 +1,3 @@
+pub mod Bodies
+pub mod Images
+pub mod Laws

@@ -1,0 +1,51 @@
+// Records of corrections. Their body is never by halves: code 5 is for instants.
+ghost use mathlib.Core.Path.{_≡_};
+ghost use Prim.Native.Nat.{_+_, _*_, _≤_};
+ghost use lib.ListN.{length};
+ghost use Rattle.format.specs.Limits.{longestBuffer};
+ghost use Rattle.write_words.specs.Written.{Written};
+ghost use Rattle.write_records.specs.Images.{recordImage, bodyImage};
+ghost use Rattle.write_records.specs.Bodies.{SignedRecord};
+use crate::Body;
+use crate::heading;
+use bits::BitPos;
+use headings::Heading;
+
+fn count_body(h: Heading, values: &[i32]) -> u64
+    requires { ⌜ SignedRecord h (now values) ⌝ }
+    ensures { λ r. ⌜ (r ≡ length (bodyImage h (now (values .entry)))) × (r ≤ 17592186167296) ⌝ }
+{
+    let code = h.code;
+    match crate::body_of(code) {
+        Body::ByWords(words) => write_lists::signed::count(words, values),
+        Body::ByHalves => 0,
+    }
+}
+
+fn write_body(buf: &mut [u8], at: BitPos, h: Heading, values: &[i32]) -> BitPos
+    requires { ⌜ SignedRecord h (now values) ⌝ }
+    requires room { ⌜ (at .0 + length (bodyImage h (now values)) ≤ 8 * length (now buf)) × (length (now buf) ≤ longestBuffer) ⌝ }
+    ensures { λ r. ⌜ Written (bodyImage h) (now (values .entry)) (now (buf .entry)) at (now (buf .exit)) r ⌝ }
+{
+    let code = h.code;
+    match crate::body_of(code) {
+        Body::ByWords(words) => write_lists::signed::write(buf, at, words, values),
+        Body::ByHalves => at,
+    }
+}
+
+pub fn count(h: Heading, values: &[i32]) -> u64
+    requires { ⌜ SignedRecord h (now values) ⌝ }
+    ensures { λ r. ⌜ (r ≡ length (recordImage h (now (values .entry)))) × (r ≤ 17592186167370) ⌝ }
+{
+    heading::count(h, values.len()) + count_body(h, values)
+}
+
+pub fn write(buf: &mut [u8], at: BitPos, h: Heading, values: &[i32]) -> BitPos
+    requires { ⌜ SignedRecord h (now values) ⌝ }
+    requires room { ⌜ (at .0 + length (recordImage h (now values)) ≤ 8 * length (now buf)) × (length (now buf) ≤ longestBuffer) ⌝ }
+    ensures { λ r. ⌜ Written (recordImage h) (now (values .entry)) (now (buf .entry)) at (now (buf .exit)) r ⌝ }
+{
+    let body_at = heading::write(buf, at, h, values.len());
+    write_body(buf, body_at, h, values)
+}

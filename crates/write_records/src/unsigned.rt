@@ -1,0 +1,57 @@
+// Records of plain values and of instants.
+ghost use mathlib.Core.Path.{_≡_};
+ghost use mathlib.Core.List.{map};
+ghost use Prim.Native.Nat.{_+_, _*_, _≤_};
+ghost use lib.IntN.{pos};
+ghost use lib.ListN.{length};
+ghost use Rattle.format.specs.Limits.{longestBuffer};
+ghost use Rattle.write_words.specs.Written.{Written};
+ghost use Rattle.write_records.specs.Images.{recordImage, bodyImage};
+ghost use Rattle.write_records.specs.Bodies.{UnsignedRecord};
+use crate::Body;
+use crate::heading;
+use bits::BitPos;
+use headings::Heading;
+
+fn count_body(h: Heading, values: &[u32]) -> u64
+    requires { ⌜ UnsignedRecord h (now values) ⌝ }
+    ensures { λ r. ⌜ (r ≡ length (bodyImage h (map pos (now (values .entry))))) × (r ≤ 17592186167296) ⌝ }
+{
+    let code = h.code;
+    let kind = h.kind;
+    let instants = crate::is_instants(kind);
+    match crate::body_of(code) {
+        Body::ByWords(words) => write_lists::unsigned::count(words, instants, values),
+        Body::ByHalves => write_interpolative::count(values),
+    }
+}
+
+fn write_body(buf: &mut [u8], at: BitPos, h: Heading, values: &[u32]) -> BitPos
+    requires { ⌜ UnsignedRecord h (now values) ⌝ }
+    requires room { ⌜ (at .0 + length (bodyImage h (map pos (now values))) ≤ 8 * length (now buf)) × (length (now buf) ≤ longestBuffer) ⌝ }
+    ensures { λ r. ⌜ Written (bodyImage h) (map pos (now (values .entry))) (now (buf .entry)) at (now (buf .exit)) r ⌝ }
+{
+    let code = h.code;
+    let kind = h.kind;
+    let instants = crate::is_instants(kind);
+    match crate::body_of(code) {
+        Body::ByWords(words) => write_lists::unsigned::write(buf, at, words, instants, values),
+        Body::ByHalves => write_interpolative::write(buf, at, values),
+    }
+}
+
+pub fn count(h: Heading, values: &[u32]) -> u64
+    requires { ⌜ UnsignedRecord h (now values) ⌝ }
+    ensures { λ r. ⌜ (r ≡ length (recordImage h (map pos (now (values .entry))))) × (r ≤ 17592186167370) ⌝ }
+{
+    heading::count(h, values.len()) + count_body(h, values)
+}
+
+pub fn write(buf: &mut [u8], at: BitPos, h: Heading, values: &[u32]) -> BitPos
+    requires { ⌜ UnsignedRecord h (now values) ⌝ }
+    requires room { ⌜ (at .0 + length (recordImage h (map pos (now values))) ≤ 8 * length (now buf)) × (length (now buf) ≤ longestBuffer) ⌝ }
+    ensures { λ r. ⌜ Written (recordImage h) (map pos (now (values .entry))) (now (buf .entry)) at (now (buf .exit)) r ⌝ }
+{
+    let body_at = heading::write(buf, at, h, values.len());
+    write_body(buf, body_at, h, values)
+}
