@@ -1,4 +1,4 @@
 -- What follows from the definitions. Nothing here has to be believed: it is proved.
-pub mod Bytes
 pub mod Wrote
 pub mod End
+pub mod Record

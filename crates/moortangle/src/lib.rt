@@ -2,6 +2,7 @@
 use bits::BitPos;
 
 pub mod end;
+pub mod record;
 
 // What a writer answers, with what it tells: document 01's 0, 1, 2, 3, 4, 5 and 12.
 pub enum Wrote {

@@ -1,3 +1,4 @@
 pub mod Bodies
 pub mod Images
+pub mod Put
 pub mod Laws

@@ -4,6 +4,7 @@ ghost use Prim.Native.Nat.{_≤_};
 ghost use Rattle.format.specs.Limits.{largestParameter};
 ghost use Rattle.headings.specs.Headings.{carried};
 ghost use Rattle.write_records.specs.Bodies.{ToldBody, InstantsIf};
+use bits::BitPos;
 use headings::Code;
 use headings::Kind;
 use write_words::Words;
@@ -16,6 +17,12 @@ pub mod unsigned;
 pub enum Body {
     ByWords(Words),
     ByHalves,
+}
+
+// A record written, up to the bit after it, or not for want of room: document 01's 0 and 5.
+pub enum Put {
+    Done(BitPos),
+    Full,
 }
 
 fn body_of(code: Code) -> Body
@@ -31,7 +38,7 @@ fn body_of(code: Code) -> Body
     }
 }
 
-fn is_instants(kind: Kind) -> bool
+pub fn is_instants(kind: Kind) -> bool
     ensures { λ r. ⌜ InstantsIf kind r ⌝ }
 {
     match kind {

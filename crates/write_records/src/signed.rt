@@ -3,10 +3,13 @@ ghost use mathlib.Core.Path.{_≡_};
 ghost use Prim.Native.Nat.{_+_, _*_, _≤_};
 ghost use lib.ListN.{length};
 ghost use Rattle.format.specs.Limits.{longestBuffer};
+ghost use Rattle.format.specs.Writing.{Puts};
 ghost use Rattle.write_words.specs.Written.{Written};
 ghost use Rattle.write_records.specs.Images.{recordImage, bodyImage};
 ghost use Rattle.write_records.specs.Bodies.{SignedRecord};
+ghost use Rattle.write_records.specs.Put.{putOutcome};
 use crate::Body;
+use crate::Put;
 use crate::heading;
 use bits::BitPos;
 use headings::Heading;
@@ -48,4 +51,16 @@ pub fn write(buf: &mut [u8], at: BitPos, h: Heading, values: &[i32]) -> BitPos
 {
     let body_at = heading::write(buf, at, h, values.len());
     write_body(buf, body_at, h, values)
+}
+
+// Written where it has room.
+pub fn put(buf: &mut [u8], at: BitPos, h: Heading, values: &[i32]) -> Put
+    requires { ⌜ SignedRecord h (now values) × (at .0 ≤ 8 * length (now buf)) × (length (now buf) ≤ longestBuffer) ⌝ }
+    ensures { λ r. ⌜ Puts (now (buf .entry)) (at .0) (recordImage h (now (values .entry))) (putOutcome r) (now (buf .exit)) ⌝ }
+{
+    let left = 8 * buf.len() - at.bit();
+    if (left as u64) < count(h, values) {
+        return Put::Full;
+    }
+    Put::Done(write(buf, at, h, values))
 }

@@ -1,7 +1,7 @@
 -- Bits within a byte, and bytes within a window.
 use mathlib.Core.Path.{_≡_, refl, sym, ap, ap₂, _∙_, subst}
 use mathlib.Core.Bool.{Bool}
-use mathlib.Core.List.{List, _∷_, _++_, append-assoc}
+use mathlib.Core.List.{List, [], _∷_, _++_, append-assoc}
 use Prim.Native.Nat.{ℕ, suc, _+_, _-_, _*_, _/_, _%_, _^_, _≤_, _<_}
 use native.Mathlib.Nat.{mod-lt, mod-eq-of-lt, add-assoc, mul-div-mul-right, mul-assoc, div-one, add-mul, mul-add-mod-self-right, mul-lt-mul-of-pos-right}
 use native.Mathlib.Omega.{arith}
@@ -9,7 +9,9 @@ use lib.Arith.{digits-lt}
 use lib.Pow.{pow-pos, pow-add, shr-lt, high, split}
 use lib.ListN.{length, take, drop, getD, set, length-append, length-drop, take-append-drop}
 use lib.Seq.{split-at, set-split, take-at, drop-at, drop-drop, length-take-le}
-use Rattle.layout.specs.Bits.{inBits, bitsOf, put}
+use mir.Syntax.{w8}
+use mir.Val.{Fits}
+use Rattle.layout.specs.Bits.{Bytes, inBits, bitsOf, put}
 use Rattle.layout.specs.Laws.Bits.{val, length-inBits, inBits-split, inBits-low, inBits-cat, val-append, val-inBits, val-lt, length-bitsOf, bitsOf-append}
 use Rattle.layout.specs.Laws.Windows.{val-step, window-front}
 
@@ -164,3 +166,8 @@ from-window s q r n h k =
     let l : 64 ≤ length y = rw length-drop (rw length-bitsOf (omega arith)) in
     window-val (take 64 y) n r (length-take-le 64 y l) k
     ∙ ap val (window-front y r n 64 k ∙ ap (take n) (drop-drop r (8 * q) (bitsOf s)))
+
+-- the list of a lent `&mut [u8]`, of which each element fits, is one of bytes
+pub all-bytes : (s : List ℕ) → ((i : ℕ) → Fits w8 (getD s i 0)) → Bytes s
+all-bytes [] h = tt
+all-bytes (b ∷ s) h = (h 0 .fits, all-bytes s (λ i. h (suc i)))

@@ -114,7 +114,7 @@ halves-body h xs e =
 
 -- ---- corrections
 
-signed-corrections : (t : Kinds.Kind) → familyOf t ≡ Signed → t ≡ Kinds.Corrections
+pub signed-corrections : (t : Kinds.Kind) → familyOf t ≡ Signed → t ≡ Kinds.Corrections
 signed-corrections Kinds.Plain e = let z : _≡_ {A = ℕ} 0 1 = cc e in absurd (omega arith)
 signed-corrections Kinds.Instants e = let z : _≡_ {A = ℕ} 0 1 = cc e in absurd (omega arith)
 signed-corrections Kinds.Corrections e = refl

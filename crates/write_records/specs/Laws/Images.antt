@@ -2,13 +2,13 @@
 use mathlib.Core.Path.{_≡_, refl, sym, ap, ap₂, _∙_, subst}
 use mathlib.Core.Bool.{Bool}
 use mathlib.Core.List.{List, _++_, append-assoc}
-use Prim.Native.Nat.{ℕ, _+_, _*_, _^_, _≤_, _<_}
+use Prim.Native.Nat.{ℕ, _+_, _-_, _*_, _^_, _≤_, _<_}
 use native.Mathlib.Nat.{le-trans, mul-le-mul-left}
 use native.Mathlib.Omega.{arith}
 use lib.IntN.{ℤ}
 use lib.Pow.{pow-mono}
 use lib.ListN.{length, length-append}
-use Rattle.layout.specs.Bits.{inBits, bitsOf, put}
+use Rattle.layout.specs.Bits.{Bytes, inBits, bitsOf, put}
 use Rattle.layout.specs.Laws.Bits.{length-inBits, length-bitsOf, inBits-cat}
 use Rattle.format.specs.Limits.{largestParameter}
 use Rattle.format.specs.Codes.{gamma}
@@ -17,6 +17,8 @@ use Rattle.format.specs.Records.{codeNumber, parameterField, recordFor}
 use Rattle.bits.specs.declared.BitPos.{BitPos}
 use Rattle.write_words.specs.Written.{Written}
 use Rattle.write_words.specs.Laws.Writes.{put-both}
+use Rattle.format.specs.Answers.{gives}
+use Rattle.format.specs.Writing.{Puts, done}
 use Rattle.headings.specs.declared.Code.{Code}
 use Rattle.headings.specs.declared.Code.the-variants.{Gamma, Delta, Rice, VariableByte, Interpolative}
 use Rattle.headings.specs.declared.Heading.{Heading}
@@ -109,3 +111,8 @@ record-written {before} {middle} {at = at} {next = next} h vs n e s a b =
       bits = put-both (bitsOf before) x y (at .0) (length x) (omega (arith, l, s)) refl p (b .bits ∙ ap (λ (k : ℕ). put (bitsOf middle) k y) q) ∙ ap (put (bitsOf before) (at .0)) (sym (record-parts h vs));
       told = omega (arith, b .told, q, length-record h vs (length vs) refl);
     }
+
+pub puts-done : {A : Type 0} {image : A → List Bool} {a : A} {before after : List ℕ} {at next : BitPos} → Written image a before at after next → Bytes after
+    → length (image a) ≤ 8 * length before - at .0 → Puts before (at .0) (image a) (gives (next .0)) after
+puts-done {image = image} {a = a} {before = before} {after = after} {at = at} w b r =
+    subst (λ (n : ℕ). Puts before (at .0) (image a) (gives n) after) (sym (w .told)) (done r b (w .bits))

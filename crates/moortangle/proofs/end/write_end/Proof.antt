@@ -2,7 +2,7 @@ use mathlib.Core.Path.{_≡_, ap₂, _∙_}
 use Prim.Native.Nat.{ℕ, _+_, _-_, _*_, _/_}
 use Rattle.layout.specs.Bits.{bitsOf, zeros, put}
 use Rattle.format.specs.Answers.{Start}
-use Rattle.moortangle.specs.Laws.Bytes.{all-bytes}
+use Rattle.bits.specs.Laws.Bytes.{all-bytes}
 use Rattle.moortangle.specs.Laws.End.{end-buffer-long, end-start-outside, end-full, end-done}
 use native.Mathlib.Omega.{arith}
 use borrow.Author.Needs.{needs}
