@@ -4,6 +4,7 @@ use bits::Cursor;
 use read_words::Read;
 
 mod say;
+mod written;
 
 // Each reader, of the bits of s up to stop.
 fn gamma(name: &[u8], s: &[u8], stop: usize) {
@@ -187,4 +188,7 @@ fn main() {
     words_cut_and_bad();
     between_other_bits();
     long_run();
+    written::streams();
+    written::limits();
+    written::corrections();
 }

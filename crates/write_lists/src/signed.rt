@@ -29,9 +29,10 @@ pub fn write(buf: &mut [u8], at: BitPos, code: Words, values: &[i32]) -> BitPos
     requires room { ⌜ (at .0 + length (images (imageBy code) Corrections (now values)) ≤ 8 * length (now buf)) × (length (now buf) ≤ 65536) ⌝ }
     ensures { λ r. ⌜ Written (images (imageBy code) Corrections) (now (values .entry)) (now (buf .entry)) at (now (buf .exit)) r ⌝ }
 {
+    let n = values.len();
     let mut next = at;
     let mut i = 0;
-    while i < values.len() {
+    while i < n {
         next = by_code::write(buf, next, code, lists::signed::word(values[i]));
         i += 1;
     }

@@ -34,10 +34,11 @@ pub fn write(buf: &mut [u8], at: BitPos, code: Words, instants: bool, values: &[
     requires room { ⌜ (at .0 + length (images (imageBy code) (unsignedKind instants) (map pos (now values))) ≤ 8 * length (now buf)) × (length (now buf) ≤ 65536) ⌝ }
     ensures { λ r. ⌜ Written (images (imageBy code) (unsignedKind instants)) (map pos (now (values .entry))) (now (buf .entry)) at (now (buf .exit)) r ⌝ }
 {
+    let n = values.len();
     let mut next = at;
     let mut before = 0;
     let mut i = 0;
-    while i < values.len() {
+    while i < n {
         let v = values[i];
         next = by_code::write(buf, next, code, lists::unsigned::word(instants, before, v));
         before = v;

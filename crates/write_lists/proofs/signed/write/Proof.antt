@@ -17,13 +17,13 @@ use Rattle.write_lists.proofs.signed.write.Statement.{statement}
 use Rattle.write_lists.proofs.signed.write.Tie as tie
 
 abbrev Inv-loop : tie.InvT-loop
-Inv-loop buf₀ code values next₀ i₀ buf next i =
+Inv-loop buf₀ code values n next₀ i₀ buf next i =
     ((before : ℤ) × Begun (imageBy code) Corrections values (bitsOf buf₀) (next₀ .0) i before (bitsOf buf) (next .0))
     × (i ≤ length values)
     × (length buf ≡ length buf₀)
 
 abbrev μ-loop : tie.MeasureT-loop
-μ-loop buf₀ code values next₀ i₀ buf next i = length values - i
+μ-loop buf₀ code values n next₀ i₀ buf next i = length values - i
 
 loop-holds : tie.Need-loop-holds Inv-loop μ-loop
 loop-holds c =

@@ -16,13 +16,13 @@ use Rattle.write_lists.proofs.unsigned.write.Statement.{statement}
 use Rattle.write_lists.proofs.unsigned.write.Tie as tie
 
 abbrev Inv-loop : tie.InvT-loop
-Inv-loop buf₀ code instants values next₀ before₀ i₀ buf next before i =
+Inv-loop buf₀ code instants values n next₀ before₀ i₀ buf next before i =
     Begun (imageBy code) (unsignedKind instants) (map pos values) (bitsOf buf₀) (next₀ .0) i (pos before) (bitsOf buf) (next .0)
     × (i ≤ length values)
     × (length buf ≡ length buf₀)
 
 abbrev μ-loop : tie.MeasureT-loop
-μ-loop buf₀ code instants values next₀ before₀ i₀ buf next before i = length values - i
+μ-loop buf₀ code instants values n next₀ before₀ i₀ buf next before i = length values - i
 
 loop-holds : tie.Need-loop-holds Inv-loop μ-loop
 loop-holds c =
