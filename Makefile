@@ -1,9 +1,11 @@
-.PHONY: help test check fmt
+.PHONY: help test check fmt library compare
 
 help:
-	@echo 'make test    the gate: .ci/run; its last line is N passed, 0 failed'
-	@echo 'make check   rt check: prove what has changed and run the programs; not the verdict'
-	@echo 'make fmt     rt fmt: put every source file into the layout of the toolchain'
+	@echo 'make test     the gate: .ci/run; its last line is N passed, 0 failed'
+	@echo 'make check    rt check: prove what has changed and run the programs; not the verdict'
+	@echo 'make fmt      rt fmt: put every source file into the layout of the toolchain'
+	@echo 'make library  the C boundary: target/library gets libmoortangle.a and its header'
+	@echo 'make compare  run the library against the second program, tests/second'
 
 test:
 	@.ci/run
@@ -13,3 +15,12 @@ check:
 
 fmt:
 	@rt fmt
+
+library:
+	@rt staticlib moortangle_c
+	@mkdir -p target/library
+	@cp target/staticlib/libmoortangle_c.a target/library/libmoortangle.a
+	@cp include/moortangle.h target/library/moortangle.h
+
+compare: library
+	@MOORTANGLE_LIB_DIR='$(CURDIR)/target/library' cargo run --release --offline --locked --quiet --manifest-path tests/second/Cargo.toml --bin compare
