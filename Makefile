@@ -1,4 +1,4 @@
-.PHONY: help test check fmt library compare
+.PHONY: help test check fmt library compare bench
 
 help:
 	@echo 'make test     the gate: .ci/run; its last line is N passed, 0 failed'
@@ -6,6 +6,7 @@ help:
 	@echo 'make fmt      rt fmt: put every source file into the layout of the toolchain'
 	@echo 'make library  the C boundary: target/library gets libmoortangle.a and its header'
 	@echo 'make compare  run the library against the second program, tests/second'
+	@echo 'make bench    time the library beside a plain Rust writer, tests/bench, as ratios'
 
 test:
 	@.ci/run
@@ -24,3 +25,6 @@ library:
 
 compare: library
 	@MOORTANGLE_LIB_DIR='$(CURDIR)/target/library' cargo run --release --offline --locked --quiet --manifest-path tests/second/Cargo.toml --bin compare
+
+bench: library
+	@MOORTANGLE_LIB_DIR='$(CURDIR)/target/library' cargo run --release --offline --locked --quiet --manifest-path tests/bench/Cargo.toml --bin measure

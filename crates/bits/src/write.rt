@@ -1,5 +1,6 @@
 // Bits written in a buffer, a byte's part at a time; no other bit is touched.
 ghost use mathlib.Core.Path.{_≡_};
+ghost use mathlib.Core.List.{_++_};
 ghost use Prim.Native.Nat.{_+_, _-_, _*_, _/_, _%_, _^_, _≤_, _<_};
 ghost use lib.ListN.{length};
 ghost use Rattle.layout.specs.Bits.{inBits, bitsOf, put, zeros};
@@ -54,4 +55,17 @@ pub fn zeros(buf: &mut [u8], at: usize, count: usize)
         field(buf, at + done, w, 0);
         done += w;
     }
+}
+
+// So many zeros and then a field: as one field, where both together are short enough.
+pub fn led(buf: &mut [u8], at: usize, count: usize, width: usize, value: u32)
+    requires { ⌜ (at + (count + width) ≤ 8 * length (now buf)) × (width ≤ 32) × (value < 2 ^ width) × (length (now buf) ≤ 65536) ⌝ }
+    ensures { λ r. ⌜ bitsOf (now (buf .exit)) ≡ put (bitsOf (now (buf .entry))) at (zeros count ++ inBits width value) ⌝ }
+{
+    if count + width <= 32 {
+        field(buf, at, count + width, value);
+        return;
+    }
+    zeros(buf, at, count);
+    field(buf, at + count, width, value);
 }

@@ -20,8 +20,6 @@ pub fn write(buf: &mut [u8], at: BitPos, w: u32) -> BitPos
 {
     let digits = length::length(w);
     let start = at.bit();
-    let first_digit = start + (digits - 1);
-    bits::write::zeros(buf, start, digits - 1);
-    bits::write::field(buf, first_digit, digits, w);
-    BitPos::new(first_digit + digits)
+    bits::write::led(buf, start, digits - 1, digits, w);
+    BitPos::new(start + (digits - 1 + digits))
 }

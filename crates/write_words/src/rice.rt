@@ -21,10 +21,8 @@ pub fn write(buf: &mut [u8], at: BitPos, k: usize, w: u32) -> BitPos
 {
     let zeros = ((w - 1) >> k) as usize;
     let start = at.bit();
-    let one_at = start + zeros;
     let one = power(k);
-    bits::write::zeros(buf, start, zeros);
     // the one and what is left are one field of k + 1 bits
-    bits::write::field(buf, one_at, k + 1, one + (w - 1) % one);
-    BitPos::new(one_at + (k + 1))
+    bits::write::led(buf, start, zeros, k + 1, one + (w - 1) % one);
+    BitPos::new(start + (zeros + (k + 1)))
 }

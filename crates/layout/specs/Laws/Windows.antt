@@ -3,13 +3,13 @@ use mathlib.Core.Path.{_≡_, sym, ap, ap₂, _∙_}
 use mathlib.Core.Bool.{Bool, false}
 use mathlib.Core.List.{List, [], _∷_, _++_, append-assoc}
 use Prim.Native.Nat.{ℕ, zero, suc, _+_, _-_, _*_, _/_, _%_, _^_, _≤_, _<_}
-use native.Mathlib.Nat.{zero-add, suc-add, add-zero, add-assoc, lt-of-lt-of-le}
+use native.Mathlib.Nat.{zero-add, zero-mul, suc-add, add-zero, add-assoc, lt-of-lt-of-le}
 use native.Mathlib.Omega.{arith}
 use lib.Pow.{pow-mono, shr-shr}
 use lib.ListN.{length, take, drop, length-append, length-take, length-drop, length-replicate, replicate-append-replicate, take-append-drop}
 use lib.Seq.{take-nil, take-take, take-add, drop-drop, take-at, drop-at, drop-append-add, length-take-le}
 use Rattle.layout.specs.Bits.{inBits, zeros, put}
-use Rattle.layout.specs.Laws.Bits.{val, val-lt, val-append, length-inBits, inBits-split, inBits-mod, inBits-zero}
+use Rattle.layout.specs.Laws.Bits.{val, val-lt, val-append, length-inBits, inBits-split, inBits-cat, inBits-mod, inBits-zero}
 
 -- ---- written
 
@@ -86,3 +86,15 @@ drop-take-add (x ∷ l) (suc at) w = ap (λ (k : ℕ). drop (suc at) (take k (x 
 -- of the bits from `at` up to stop, the first w
 pub window-front : (l : List Bool) (at w stop : ℕ) → at + w ≤ stop → take w (drop at (take stop l)) ≡ take w (drop at l)
 window-front l at w stop h = sym (drop-take-add (take stop l) at w) ∙ ap (drop at) (take-take (at + w) stop l h) ∙ drop-take-add l at w
+
+-- zeros before a number that its width holds are of the number
+pub zeros-lead : (z w : ℕ) {n : ℕ} → n < 2 ^ w → inBits (z + w) n ≡ zeros z ++ inBits w n
+zeros-lead z w {n} h =
+    let e : n ≡ 0 * 2 ^ w + n = sym (ap (λ (k : ℕ). k + n) (zero-mul (2 ^ w)) ∙ zero-add n) in
+    ap (inBits (z + w)) e ∙ inBits-cat z w 0 h ∙ ap (λ (l : List Bool). l ++ inBits w n) (inBits-zero z)
+
+pub put-led : (l : List Bool) (at z w n : ℕ) {m r : List Bool} → at ≤ length l → m ≡ put l at (zeros z) → r ≡ put m (at + z) (inBits w n) → r ≡ put l at (zeros z ++ inBits w n)
+put-led l at z w n h p q =
+    q
+    ∙ ap₂ (λ (x : List Bool) (k : ℕ). put x (at + k) (inBits w n)) p (sym (length-replicate z false))
+    ∙ put-more l at (zeros z) (inBits w n) h

@@ -1,16 +1,17 @@
 -- How long the words of each code are, and how they are written part by part.
-use mathlib.Core.Path.{_≡_, refl, sym, ap, ap₂, _∙_}
+use mathlib.Core.Path.{_≡_, refl, sym, ap, ap₂, _∙_, subst}
 use mathlib.Core.Bool.{Bool, true, false}
 use mathlib.Core.List.{List, _∷_, _++_}
 use Prim.Native.Nat.{ℕ, zero, suc, _+_, _-_, _*_, _/_, _%_, _^_, _≤_, _<_}
 use native.Mathlib.Nat.{zero-add, one-mul, mod-lt, mod-eq-sub-div-mul}
 use native.Mathlib.Omega.{arith}
-use lib.Pow.{pow-pos}
+use lib.Pow.{pow-pos, pow-add}
 use lib.ListN.{length, length-append, length-replicate}
 use Rattle.layout.specs.Bits.{odd, inBits, Bytes, zeros, put}
 use Rattle.layout.specs.Laws.Bits.{bytes-one, length-inBits, inBits-cat, inBits-mod}
 use Rattle.layout.specs.Laws.Windows.{put-more}
-use Rattle.format.specs.Codes.{digits, size, binary, gamma, delta, rice, another, groups, variableByte}
+use Rattle.format.specs.Laws.Digits.{digits-hold}
+use Rattle.format.specs.Codes.{Word, digits, size, binary, gamma, delta, rice, another, groups, variableByte}
 use Rattle.bits.specs.Laws.Length.{power-seven}
 use Rattle.bits.specs.declared.BitPos.{BitPos}
 use Rattle.write_words.specs.Written.{Written}
@@ -35,12 +36,13 @@ unfolding delta
 length-delta w n e =
     length-append (gamma (size w)) (binary w) ∙ ap (λ (b : ℕ). length (gamma (size w)) + b) (length-binary w) ∙ ap (λ (k : ℕ). length (gamma k) + k) (sym e)
 
-pub gamma-written : {m r : List Bool} (l : List Bool) (at n w : ℕ) → at ≤ length l → n ≡ size w
-    → m ≡ put l at (zeros (n - 1)) → r ≡ put m (at + (n - 1)) (inBits n w) → r ≡ put l at (gamma w)
+pub gamma-led : (n w : ℕ) → n ≡ size w → zeros (n - 1) ++ inBits n w ≡ gamma w
 unfolding gamma binary
-gamma-written l at n w h e p q =
-    put-both l (zeros (n - 1)) (inBits n w) at (n - 1) h (sym (length-replicate (n - 1) false)) p q
-    ∙ ap (λ (k : ℕ). put l at (zeros (k - 1) ++ inBits k w)) e
+gamma-led n w e = ap (λ (k : ℕ). zeros (k - 1) ++ inBits k w) e
+
+pub size-holds : (n w : ℕ) → n ≡ size w → Word w → w < 2 ^ n
+unfolding size
+size-holds n w e h = subst (λ (k : ℕ). w < 2 ^ k) (sym e) (digits-hold 2 32 w (omega (arith, h .1)))
 
 pub delta-written : {m r : List Bool} (l : List Bool) (at n w next : ℕ) → at ≤ length l → n ≡ size w → next ≡ at + length (gamma n)
     → m ≡ put l at (gamma n) → r ≡ put m next (inBits n w) → r ≡ put l at (delta w)
@@ -68,13 +70,11 @@ length-rice k w =
     ∙ length-append (zeros ((w - 1) / 2 ^ k)) (inBits (k + 1) (2 ^ k + (w - 1) % 2 ^ k))
     ∙ ap₂ (λ (a b : ℕ). a + b) (length-replicate ((w - 1) / 2 ^ k) false) (length-inBits (k + 1) (2 ^ k + (w - 1) % 2 ^ k))
 
-pub rice-written : {m r : List Bool} (l : List Bool) (at k w one : ℕ) → at ≤ length l → one ≡ 2 ^ k
-    → m ≡ put l at (zeros ((w - 1) / 2 ^ k)) → r ≡ put m (at + (w - 1) / 2 ^ k) (inBits (k + 1) (one + (w - 1) % one)) → r ≡ put l at (rice k w)
-rice-written {m} l at k w one h e p q =
-    let z = (w - 1) / 2 ^ k in
-    put-both l (zeros z) (inBits (k + 1) (2 ^ k + (w - 1) % 2 ^ k)) at z h (sym (length-replicate z false)) p
-    (q ∙ ap (λ (n : ℕ). put m (at + z) (inBits (k + 1) (n + (w - 1) % n))) e)
-    ∙ ap (put l at) (sym (rice-field k w))
+pub rice-led : (k w one : ℕ) → one ≡ 2 ^ k → zeros ((w - 1) / 2 ^ k) ++ inBits (k + 1) (one + (w - 1) % one) ≡ rice k w
+rice-led k w one e = ap (λ (n : ℕ). zeros ((w - 1) / 2 ^ k) ++ inBits (k + 1) (n + (w - 1) % n)) e ∙ sym (rice-field k w)
+
+pub rice-holds : (k r one : ℕ) → one ≡ 2 ^ k → r < one → one + r < 2 ^ (k + 1)
+rice-holds k r one e h = let p : 2 ^ (k + 1) ≡ 2 ^ k * 2 = pow-add 2 k 1 in omega (arith, p, e, h)
 
 -- ---- variable-byte
 

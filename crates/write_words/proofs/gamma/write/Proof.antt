@@ -1,10 +1,10 @@
-use mathlib.Core.Path.{_≡_, _∙_, ap}
+use mathlib.Core.Path.{_∙_, ap₂}
+use mathlib.Core.Bool.{Bool}
+use mathlib.Core.List.{List}
 use Prim.Native.Nat.{ℕ}
 use Rattle.layout.specs.Bits.{bitsOf, put}
-use Rattle.layout.specs.Laws.Bits.{length-bitsOf}
-use Rattle.format.specs.Codes.{gamma, size}
 use Rattle.bits.specs.Laws.Length.{size-pos}
-use Rattle.write_words.specs.Laws.Writes.{length-gamma, gamma-written}
+use Rattle.write_words.specs.Laws.Writes.{length-gamma, gamma-led, size-holds}
 use native.Mathlib.Omega.{arith}
 use borrow.Author.Needs.{needs}
 use Rattle.write_words.proofs.gamma.write.Statement.{statement}
@@ -16,25 +16,27 @@ length-requires c κs = search needs
 bit-requires : tie.Need-bit-requires
 bit-requires c κs = search needs
 
-sub-first-digit : tie.Need-sub-first-digit
-sub-first-digit c = let s = c .before .before .before in omega (arith, size-pos (s .args .w) (s .pre .word))
+sub-led : tie.Need-sub-led
+sub-led c =
+    let s = c .before .before .before .before in
+    omega (arith, size-pos (s .args .w) (s .pre .word))
 
-add-first-digit : tie.Need-add-first-digit
-add-first-digit c = search needs
+led-requires : tie.Need-led-requires
+led-requires c κs =
+    let s = c .before .before .before .before in
+    let l = c .before .before .length .ensures in
+    (omega (arith, length-gamma (s .args .w), s .pre .fits, l .0, c .before .bit .ensures, size-pos (s .args .w) (s .pre .word)), l .1, size-holds (c .before .before .length .result) (s .args .w) (l .0) (s .pre .word), s .pre .small)
 
-sub-zeros : tie.Need-sub-zeros
-sub-zeros c = let s = c .before .before .before .before in omega (arith, size-pos (s .args .w) (s .pre .word))
-
-zeros-requires : tie.Need-zeros-requires
-zeros-requires c κs = let s = c .before .before .before .before in omega (arith, length-gamma (s .args .w))
-
-field-requires : tie.Need-field-requires
-field-requires c κs =
-    let s = c .before .before .before .before .before .before .before .before in
-    omega (arith, length-gamma (s .args .w), size-pos (s .args .w) (s .pre .word), c .before .before .before .zeros .kept .0)
+sub-new : tie.Need-sub-new
+sub-new c =
+    let s = c .before .before .before .before .before .before .before in
+    omega (arith, size-pos (s .args .w) (s .pre .word))
 
 add-new : tie.Need-add-new
 add-new c = search needs
+
+add-new-2 : tie.Need-add-new-2
+add-new-2 c = search needs
 
 new-requires : tie.Need-new-requires
 new-requires c κs = search needs
@@ -44,18 +46,15 @@ same-length c = search needs
 
 returns : tie.Need-returns
 returns c =
-    let f = c .before .before .before in
-    let z = f .before .before .before .before in
-    let b = z .before .before in
+    let d = c .before .before .before in
+    let b = d .before .before in
     let s = b .before .before .before in
-    let start = b .bit .result in
-    let digits = b .before .length .result in
-    let e : digits ≡ size (s .args .w) = b .before .length .ensures .0 in
+    let n = b .before .length in
     record {
       bits =
-          gamma-written (bitsOf (s .args .buf .now)) start digits (s .args .w) (rw length-bitsOf (omega (arith, s .pre .fits))) e (z .zeros .ensures) (f .field .ensures)
-          ∙ ap (λ (k : ℕ). put (bitsOf (s .args .buf .now)) k (gamma (s .args .w))) (b .bit .ensures);
-      told = omega (arith, length-gamma (s .args .w), c .new .ensures, size-pos (s .args .w) (s .pre .word));
+          d .led .ensures
+          ∙ ap₂ (λ (k : ℕ) (l : List Bool). put (bitsOf (s .args .buf .now)) k l) (b .bit .ensures) (gamma-led (n .result) (s .args .w) (n .ensures .0));
+      told = omega (arith, length-gamma (s .args .w), c .new .ensures, b .bit .ensures, n .ensures .0);
     }
 
 pub write-spec : {M : Type 1} → statement M
@@ -64,12 +63,11 @@ write-spec =
     (tie.spec
     length-requires
     bit-requires
-    sub-first-digit
-    add-first-digit
-    sub-zeros
-    zeros-requires
-    field-requires
+    sub-led
+    led-requires
+    sub-new
     add-new
+    add-new-2
     new-requires
     same-length
     returns)

@@ -1,11 +1,11 @@
-use mathlib.Core.Path.{_∙_, ap}
-use Prim.Native.Nat.{ℕ, _-_}
+use mathlib.Core.Path.{_∙_, ap₂}
+use mathlib.Core.Bool.{Bool}
+use mathlib.Core.List.{List}
+use Prim.Native.Nat.{ℕ, _-_, _%_}
 use native.Mathlib.Nat.{mod-lt}
 use lib.Pow.{shr-le, pow-mono}
 use Rattle.layout.specs.Bits.{bitsOf, put}
-use Rattle.layout.specs.Laws.Bits.{length-bitsOf}
-use Rattle.format.specs.Codes.{rice}
-use Rattle.write_words.specs.Laws.Writes.{length-rice, rice-written}
+use Rattle.write_words.specs.Laws.Writes.{length-rice, rice-led, rice-holds}
 use native.Mathlib.Omega.{arith}
 use borrow.Author.Needs.{needs}
 use Rattle.write_words.proofs.rice.write.Statement.{statement}
@@ -26,42 +26,52 @@ cast-zeros-2 c = omega (arith, shr-le (c .before .args .w - 1) (c .before .args 
 bit-requires : tie.Need-bit-requires
 bit-requires c κs = search needs
 
-add-one-at : tie.Need-add-one-at
-add-one-at c = let s = c .before .before in omega (arith, length-rice (s .args .k) (s .args .w), s .pre .0 .fits)
-
 power-requires : tie.Need-power-requires
 power-requires c κs = search needs
 
-zeros-requires : tie.Need-zeros-requires
-zeros-requires c κs = let s = c .before .before .before .before in omega (arith, length-rice (s .args .k) (s .args .w), s .pre .0 .fits)
+add-led : tie.Need-add-led
+add-led c = search needs
 
-add-field : tie.Need-add-field
-add-field c = search needs
+sub-led : tie.Need-sub-led
+sub-led c = search needs
 
-sub-field : tie.Need-sub-field
-sub-field c = search needs
+rem-led : tie.Need-rem-led
+rem-led c = search needs
 
-rem-field : tie.Need-rem-field
-rem-field c = search needs
-
-add-field-2 : tie.Need-add-field-2
-add-field-2 c =
-    let p = c .before .before .before .before .before in
+add-led-2 : tie.Need-add-led-2
+add-led-2 c =
+    let p = c .before in
     let s = p .before .before .before in
+    let b = p .before .bit .ensures in
+    let l = length-rice (s .args .k) (s .args .w) in
     omega (arith, mod-lt (s .args .w - 1) (p .power .ensures .1), p .power .ensures .0, pow-mono {i = s .args .k} {j = 31} (s .pre .1))
 
-field-requires : tie.Need-field-requires
-field-requires c κs =
-    let s = c .before .before .before .before .before .before .before .before in
-    omega (arith, length-rice (s .args .k) (s .args .w), s .pre .0 .fits, s .pre .1, c .before .before .before .zeros .kept .0, c .before .before .before .before .before .before .bit .ensures)
+led-requires : tie.Need-led-requires
+led-requires c κs =
+    let p = c .before in
+    let s = p .before .before .before in
+    let b = p .before .bit .ensures in
+    let l = length-rice (s .args .k) (s .args .w) in
+    (omega (arith, l, s .pre .0 .fits, b), omega (arith, s .pre .1), rice-holds (s .args .k) ((s .args .w - 1) % p .power .result) (p .power .result) (p .power .ensures .0) (mod-lt (s .args .w - 1) (p .power .ensures .1)), s .pre .0 .small)
 
 add-new : tie.Need-add-new
 add-new c = search needs
 
 add-new-2 : tie.Need-add-new-2
 add-new-2 c =
-    let s = c .before .before .before .before .before .before .before .before .before .before .before in
-    omega (arith, length-rice (s .args .k) (s .args .w), s .pre .0 .fits, s .pre .0 .small, s .pre .1, c .before .before .before .before .before .before .before .before .before .bit .ensures)
+    let p = c .before .before .before .before in
+    let s = p .before .before .before in
+    let b = p .before .bit .ensures in
+    let l = length-rice (s .args .k) (s .args .w) in
+    omega (arith, l, s .pre .0 .fits, s .pre .0 .small, s .pre .1, b)
+
+add-new-3 : tie.Need-add-new-3
+add-new-3 c =
+    let p = c .before .before .before .before in
+    let s = p .before .before .before in
+    let b = p .before .bit .ensures in
+    let l = length-rice (s .args .k) (s .args .w) in
+    omega (arith, l, s .pre .0 .fits, s .pre .0 .small, s .pre .1, b)
 
 new-requires : tie.Need-new-requires
 new-requires c κs = search needs
@@ -71,17 +81,16 @@ same-length c = search needs
 
 returns : tie.Need-returns
 returns c =
-    let f = c .before .before .before in
-    let z = f .before .before .before .before in
-    let p = z .before .before in
-    let b = p .before in
-    let s = b .before .before in
+    let d = c .before .before .before in
+    let p = d .before .before in
+    let s = p .before .before .before in
+    let b = p .before .bit in
+    let l = length-rice (s .args .k) (s .args .w) in
     record {
       bits =
-          rice-written (bitsOf (s .args .buf .now)) (b .bit .result) (s .args .k) (s .args .w) (p .power .result)
-          (rw length-bitsOf (omega (arith, s .pre .0 .fits))) (p .power .ensures .0) (z .zeros .ensures) (f .field .ensures)
-          ∙ ap (λ (n : ℕ). put (bitsOf (s .args .buf .now)) n (rice (s .args .k) (s .args .w))) (b .bit .ensures);
-      told = omega (arith, length-rice (s .args .k) (s .args .w), c .new .ensures, b .bit .ensures);
+          d .led .ensures
+          ∙ ap₂ (λ (n : ℕ) (x : List Bool). put (bitsOf (s .args .buf .now)) n x) (b .ensures) (rice-led (s .args .k) (s .args .w) (p .power .result) (p .power .ensures .0));
+      told = omega (arith, l, c .new .ensures, b .ensures);
     }
 
 pub write-spec : {M : Type 1} → statement M
@@ -93,16 +102,15 @@ write-spec =
     shr-zeros
     cast-zeros-2
     bit-requires
-    add-one-at
     power-requires
-    zeros-requires
-    add-field
-    sub-field
-    rem-field
-    add-field-2
-    field-requires
+    add-led
+    sub-led
+    rem-led
+    add-led-2
+    led-requires
     add-new
     add-new-2
+    add-new-3
     new-requires
     same-length
     returns)

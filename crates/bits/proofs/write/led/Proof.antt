@@ -1,0 +1,58 @@
+use mathlib.Core.Path.{ap, _∙_}
+use Rattle.layout.specs.Bits.{bitsOf, put}
+use Rattle.layout.specs.Laws.Bits.{length-bitsOf}
+use Rattle.layout.specs.Laws.Windows.{zeros-lead, put-led}
+use native.Mathlib.Omega.{arith}
+use borrow.Author.Needs.{needs}
+use Rattle.bits.proofs.write.led.Statement.{statement}
+use Rattle.bits.proofs.write.led.Tie as tie
+
+add-if1 : tie.Need-add-if1
+add-if1 c = search needs
+
+add-field : tie.Need-add-field
+add-field c = search needs
+
+field-requires : tie.Need-field-requires
+field-requires c κs = search needs
+
+same-length : tie.Need-same-length
+same-length c = search needs
+
+returns : tie.Need-returns
+returns c =
+    let u = c .before .before .before .before .before .before in
+    c .before .before .field .ensures ∙ ap (put (bitsOf (u .args .buf .now)) (u .args .at)) (zeros-lead (u .args .count) (u .args .width) (u .pre .2))
+
+zeros-requires : tie.Need-zeros-requires
+zeros-requires c κs = search needs
+
+add-field-2 : tie.Need-add-field-2
+add-field-2 c = search needs
+
+field-requires-2 : tie.Need-field-requires-2
+field-requires-2 c κs = search needs
+
+same-length-2 : tie.Need-same-length-2
+same-length-2 c = search needs
+
+returns-2 : tie.Need-returns-2
+returns-2 c =
+    let u = c .before .before .before .before .before .before .before .before .before .before in
+    let a = u .args in
+    put-led (bitsOf (a .buf .now)) (a .at) (a .count) (a .width) (a .value) (rw length-bitsOf (omega arith)) (c .before .before .before .before .before .before .zeros .ensures) (c .before .before .field2 .ensures)
+
+pub led-spec : {M : Type 1} → statement M
+led-spec =
+    tie.close
+    (tie.spec
+    add-if1
+    add-field
+    field-requires
+    same-length
+    returns
+    zeros-requires
+    add-field-2
+    field-requires-2
+    same-length-2
+    returns-2)
