@@ -1,17 +1,17 @@
 // What is printed of a case.
 use read_words::Read;
 
-pub fn text(t: &[u8]) {
+pub(crate) fn text(t: &[u8]) {
     io::write_all(1, t);
 }
 
-pub fn number(name: &[u8], n: u64) {
+pub(crate) fn number(name: &[u8], n: u64) {
     text(name);
     io::print_decimal(1, n);
     text(b"\n");
 }
 
-pub fn read(name: &[u8], r: Read) {
+pub(crate) fn read(name: &[u8], r: Read) {
     text(name);
     match r {
         Read::Took(w, next) => {
@@ -30,7 +30,7 @@ fn byte(b: u8) {
 }
 
 // The bytes of a buffer in hexadecimal.
-pub fn bytes(name: &[u8], buf: &[u8]) {
+pub(crate) fn bytes(name: &[u8], buf: &[u8]) {
     text(name);
     let mut i = 0;
     while i < buf.len() {

@@ -26,7 +26,7 @@ fn stream(name: &[u8], code: u32, kind: u32, values: &[u32], next: usize, buf: &
     say::bytes(b"bytes:", buf);
 }
 
-pub fn streams() {
+pub(crate) fn streams() {
     let mut four = [255u8; 4];
     stream(
         b"instants 5, 5, 9, gamma: ",
@@ -58,7 +58,7 @@ pub fn streams() {
 }
 
 // Document 01's limits of lists and values, and the ends of the corrections' range.
-pub fn limits() {
+pub(crate) fn limits() {
     let mut buf = [0u8; 1024];
     let list = [0u32; 4097];
     answer(
@@ -107,7 +107,7 @@ pub fn limits() {
 }
 
 // -1 is the word 3, 011 after the heading 0001 10 010.
-pub fn corrections() {
+pub(crate) fn corrections() {
     let mut buf = [255u8; 2];
     answer(
         b"correction -1, gamma: ",

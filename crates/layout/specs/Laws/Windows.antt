@@ -31,6 +31,10 @@ put-more l at a b h =
     ∙ ap (λ (x : List Bool). take at l ++ x) (sym (append-assoc a b (drop (at + length (a ++ b)) l)))
 
 -- a turn of the loop that writes: done bits are written, and w more, with rest still to come
+-- two parts written side by side are one
+pub put-both : {m r : List Bool} (l a b : List Bool) (at n : ℕ) → at ≤ length l → n ≡ length a → m ≡ put l at a → r ≡ put m (at + n) b → r ≡ put l at (a ++ b)
+put-both l a b at n h e p q = q ∙ ap₂ (λ (x : List Bool) (k : ℕ). put x (at + k) b) p e ∙ put-more l at a b h
+
 pub put-step : (l : List Bool) (at done w rest v : ℕ) → at ≤ length l
     → put (put l at (inBits done (v / 2 ^ (rest + w)))) (at + done) (inBits w (v / 2 ^ rest % 2 ^ w)) ≡ put l at (inBits (done + w) (v / 2 ^ rest))
 put-step l at done w rest v h =
@@ -92,9 +96,3 @@ pub zeros-lead : (z w : ℕ) {n : ℕ} → n < 2 ^ w → inBits (z + w) n ≡ ze
 zeros-lead z w {n} h =
     let e : n ≡ 0 * 2 ^ w + n = sym (ap (λ (k : ℕ). k + n) (zero-mul (2 ^ w)) ∙ zero-add n) in
     ap (inBits (z + w)) e ∙ inBits-cat z w 0 h ∙ ap (λ (l : List Bool). l ++ inBits w n) (inBits-zero z)
-
-pub put-led : (l : List Bool) (at z w n : ℕ) {m r : List Bool} → at ≤ length l → m ≡ put l at (zeros z) → r ≡ put m (at + z) (inBits w n) → r ≡ put l at (zeros z ++ inBits w n)
-put-led l at z w n h p q =
-    q
-    ∙ ap₂ (λ (x : List Bool) (k : ℕ). put x (at + k) (inBits w n)) p (sym (length-replicate z false))
-    ∙ put-more l at (zeros z) (inBits w n) h

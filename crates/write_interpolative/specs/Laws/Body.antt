@@ -10,7 +10,7 @@ use Rattle.format.specs.Limits.{largestInstant}
 use Rattle.format.specs.Codes.{delta}
 use Rattle.format.specs.Interpolative.{part, rising, interpolative}
 use Rattle.format.specs.Laws.Interpolative.{NeverFalls, interpolative-holds}
-use Rattle.write_words.specs.Laws.Writes.{put-both}
+use Rattle.layout.specs.Laws.Windows.{put-both}
 use Rattle.write_interpolative.specs.Parts.{elements, image, Body}
 
 pub body-none : (ts : List ℕ) → length ts ≡ 0 → interpolative (length ts) .bits ts ≡ []

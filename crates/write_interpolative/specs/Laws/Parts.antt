@@ -12,7 +12,7 @@ use Rattle.layout.specs.Laws.Bits.{length-inBits}
 use Rattle.format.specs.Codes.{size}
 use Rattle.format.specs.Interpolative.{width, offset, middle, part, rising}
 use Rattle.format.specs.Laws.Parts.{Node, node, part-node, part-none}
-use Rattle.write_words.specs.Laws.Writes.{put-both}
+use Rattle.layout.specs.Laws.Windows.{put-both}
 use Rattle.write_interpolative.specs.Parts.{elements, image, Ready, Halves}
 
 pub size-width : (possible : ℕ) → size (possible - 1) ≡ width possible

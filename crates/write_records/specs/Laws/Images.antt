@@ -16,7 +16,7 @@ use Rattle.format.specs.Kinds.{kindNumber}
 use Rattle.format.specs.Records.{codeNumber, parameterField, recordFor}
 use Rattle.bits.specs.declared.BitPos.{BitPos}
 use Rattle.write_words.specs.Written.{Written}
-use Rattle.write_words.specs.Laws.Writes.{put-both}
+use Rattle.layout.specs.Laws.Windows.{put-both}
 use Rattle.format.specs.Answers.{gives}
 use Rattle.format.specs.Writing.{Puts, done}
 use Rattle.headings.specs.declared.Code.{Code}

@@ -9,16 +9,12 @@ use lib.Pow.{pow-pos, pow-add}
 use lib.ListN.{length, length-append, length-replicate}
 use Rattle.layout.specs.Bits.{odd, inBits, Bytes, zeros, put}
 use Rattle.layout.specs.Laws.Bits.{bytes-one, length-inBits, inBits-cat, inBits-mod}
-use Rattle.layout.specs.Laws.Windows.{put-more}
+use Rattle.layout.specs.Laws.Windows.{put-more, put-both}
 use Rattle.format.specs.Laws.Digits.{digits-hold}
 use Rattle.format.specs.Codes.{Word, digits, size, binary, gamma, delta, rice, another, groups, variableByte}
 use Rattle.bits.specs.Laws.Length.{power-seven}
 use Rattle.bits.specs.declared.BitPos.{BitPos}
 use Rattle.write_words.specs.Written.{Written}
-
--- two parts written side by side are one
-pub put-both : {m r : List Bool} (l a b : List Bool) (at n : ℕ) → at ≤ length l → n ≡ length a → m ≡ put l at a → r ≡ put m (at + n) b → r ≡ put l at (a ++ b)
-put-both l a b at n h e p q = q ∙ ap₂ (λ (x : List Bool) (k : ℕ). put x (at + k) b) p e ∙ put-more l at a b h
 
 -- ---- gamma and delta
 

@@ -1,7 +1,9 @@
-use mathlib.Core.Path.{ap, _∙_}
-use Rattle.layout.specs.Bits.{bitsOf, put}
+use mathlib.Core.Path.{sym, ap, _∙_}
+use mathlib.Core.Bool.{false}
+use lib.ListN.{length-replicate}
+use Rattle.layout.specs.Bits.{inBits, bitsOf, zeros, put}
 use Rattle.layout.specs.Laws.Bits.{length-bitsOf}
-use Rattle.layout.specs.Laws.Windows.{zeros-lead, put-led}
+use Rattle.layout.specs.Laws.Windows.{zeros-lead, put-both}
 use native.Mathlib.Omega.{arith}
 use borrow.Author.Needs.{needs}
 use Rattle.bits.proofs.write.led.Statement.{statement}
@@ -40,7 +42,7 @@ returns-2 : tie.Need-returns-2
 returns-2 c =
     let u = c .before .before .before .before .before .before .before .before .before .before in
     let a = u .args in
-    put-led (bitsOf (a .buf .now)) (a .at) (a .count) (a .width) (a .value) (rw length-bitsOf (omega arith)) (c .before .before .before .before .before .before .zeros .ensures) (c .before .before .field2 .ensures)
+    put-both (bitsOf (a .buf .now)) (zeros (a .count)) (inBits (a .width) (a .value)) (a .at) (a .count) (rw length-bitsOf (omega arith)) (sym (length-replicate (a .count) false)) (c .before .before .before .before .before .before .zeros .ensures) (c .before .before .field2 .ensures)
 
 pub led-spec : {M : Type 1} → statement M
 led-spec =
