@@ -1,8 +1,7 @@
-//! Tells the comparison where libmoortangle.a is; the naive library and its tests do without it.
+//! Tells a program of tests/ where libmoortangle.a is; its library and the tests of that do without it.
 
 fn main() {
     println!("cargo:rustc-check-cfg=cfg(library_given)");
-    println!("cargo:rerun-if-changed=build.rs");
     println!("cargo:rerun-if-env-changed=MOORTANGLE_LIB_DIR");
     let Ok(folder) = std::env::var("MOORTANGLE_LIB_DIR") else {
         return;

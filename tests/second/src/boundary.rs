@@ -1,81 +1,17 @@
-//! The writers as the static library exports them.
+//! The library's writers, called on memory with guards around it.
 
+use crate::exported::{moortangle_write_end, moortangle_written, Writer};
 use crate::guarded::Guarded;
 
-#[repr(C)]
-#[allow(non_camel_case_types)]
-pub struct moortangle_written {
-    pub answer: u32,
-    pub told: u64,
-}
-
-#[link(name = "moortangle", kind = "static")]
-extern "C" {
-    fn moortangle_write(
-        buffer: *mut u8,
-        bytes: usize,
-        start: u64,
-        code: u32,
-        parameter: u32,
-        kind: u32,
-        values: *const u32,
-        count: usize,
-    ) -> moortangle_written;
-
-    fn moortangle_write_corrections(
-        buffer: *mut u8,
-        bytes: usize,
-        start: u64,
-        code: u32,
-        parameter: u32,
-        kind: u32,
-        values: *const i32,
-        count: usize,
-    ) -> moortangle_written;
-
-    fn moortangle_write_end(buffer: *mut u8, bytes: usize, start: u64) -> moortangle_written;
-}
-
-pub fn write(
+pub fn write<T: Copy + PartialEq>(
+    writer: Writer<T>,
     buffer: &mut Guarded<u8>,
     start: u64,
     [code, parameter, kind]: [u32; 3],
-    values: &mut Guarded<u32>,
+    values: &mut Guarded<T>,
 ) -> moortangle_written {
     // SAFETY: both pointers are valid for the lengths beside them, and the two allocations do not overlap.
-    unsafe {
-        moortangle_write(
-            buffer.pointer(),
-            buffer.count(),
-            start,
-            code,
-            parameter,
-            kind,
-            values.pointer(),
-            values.count(),
-        )
-    }
-}
-
-pub fn write_corrections(
-    buffer: &mut Guarded<u8>,
-    start: u64,
-    [code, parameter, kind]: [u32; 3],
-    values: &mut Guarded<i32>,
-) -> moortangle_written {
-    // SAFETY: both pointers are valid for the lengths beside them, and the two allocations do not overlap.
-    unsafe {
-        moortangle_write_corrections(
-            buffer.pointer(),
-            buffer.count(),
-            start,
-            code,
-            parameter,
-            kind,
-            values.pointer(),
-            values.count(),
-        )
-    }
+    unsafe { writer(buffer.pointer(), buffer.count(), start, code, parameter, kind, values.pointer(), values.count()) }
 }
 
 pub fn write_end(buffer: &mut Guarded<u8>, start: u64) -> moortangle_written {

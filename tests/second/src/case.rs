@@ -1,6 +1,7 @@
 //! One call of a writer, and its comparison on both sides.
 
 use crate::boundary;
+use crate::exported::{moortangle_write, moortangle_write_corrections};
 use crate::guarded::{Guarded, Lending};
 use second::naive::heading::Entry;
 use second::naive::writer::{write, write_end, Outcome, Request};
@@ -68,12 +69,13 @@ impl Case {
                 match request.entry {
                     Entry::Unsigned => {
                         let mut list = Guarded::new(&narrowed::<u32>(&request.values), word as u32, lending);
-                        let written = boundary::write(&mut buffer, self.start, numbers, &mut list);
+                        let written = boundary::write(moortangle_write, &mut buffer, self.start, numbers, &mut list);
                         (written, widened(list.lent()), list.disturbed())
                     }
                     Entry::Corrections => {
                         let mut list = Guarded::new(&narrowed::<i32>(&request.values), word, lending);
-                        let written = boundary::write_corrections(&mut buffer, self.start, numbers, &mut list);
+                        let written =
+                            boundary::write(moortangle_write_corrections, &mut buffer, self.start, numbers, &mut list);
                         (written, widened(list.lent()), list.disturbed())
                     }
                 }

@@ -6,6 +6,7 @@ compile_error!("set MOORTANGLE_LIB_DIR to the folder that holds libmoortangle.a;
 mod boundary;
 mod case;
 mod chance;
+mod exported;
 mod guarded;
 mod report;
 mod rooms;
