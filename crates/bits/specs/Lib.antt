@@ -1,2 +1,3 @@
 pub mod Cursor
+pub mod Pen
 pub mod Laws

@@ -4,6 +4,7 @@ ghost use Prim.Native.Nat.{_+_, _-_, _*_, _/_, _≤_, _<_};
 ghost use lib.ListN.{length};
 ghost use Rattle.bits.specs.Cursor.{Within, onward, ToldField};
 
+pub mod draw;
 pub mod length;
 pub mod number;
 pub mod run;
@@ -20,6 +21,13 @@ pub struct BytePos(usize);
 pub struct Cursor {
     at: BitPos,
     stop: BitPos,
+}
+
+// The writing position, and the bits gathered before it, from the last multiple of 32 on, that are not stored yet. It is
+// taken, moved on and handed back.
+pub struct Pen {
+    at: BitPos,
+    gathered: u64,
 }
 
 // What reading a field of fixed width answers.

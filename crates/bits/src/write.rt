@@ -1,9 +1,8 @@
 // Bits written in a buffer, a byte's part at a time; no other bit is touched.
 ghost use mathlib.Core.Path.{_≡_};
-ghost use mathlib.Core.List.{_++_};
 ghost use Prim.Native.Nat.{_+_, _-_, _*_, _/_, _%_, _^_, _≤_, _<_};
 ghost use lib.ListN.{length};
-ghost use Rattle.layout.specs.Bits.{inBits, bitsOf, put, zeros};
+ghost use Rattle.layout.specs.Bits.{inBits, bitsOf, put};
 ghost use Rattle.bits.specs.Laws.Bytes.{patched};
 use crate::number::part;
 use crate::small::least;
@@ -42,30 +41,4 @@ pub fn field(buf: &mut [u8], at: usize, width: usize, value: u32)
         within_byte(buf, at + done, w, v);
         done += w;
     }
-}
-
-// So many zeros.
-pub fn zeros(buf: &mut [u8], at: usize, count: usize)
-    requires { ⌜ (at + count ≤ 8 * length (now buf)) × (length (now buf) ≤ 65536) ⌝ }
-    ensures { λ r. ⌜ bitsOf (now (buf .exit)) ≡ put (bitsOf (now (buf .entry))) at (zeros count) ⌝ }
-{
-    let mut done = 0;
-    while done < count {
-        let w = least(count - done, 32);
-        field(buf, at + done, w, 0);
-        done += w;
-    }
-}
-
-// So many zeros and then a field: as one field, where both together are short enough.
-pub fn led(buf: &mut [u8], at: usize, count: usize, width: usize, value: u32)
-    requires { ⌜ (at + (count + width) ≤ 8 * length (now buf)) × (width ≤ 32) × (value < 2 ^ width) × (length (now buf) ≤ 65536) ⌝ }
-    ensures { λ r. ⌜ bitsOf (now (buf .exit)) ≡ put (bitsOf (now (buf .entry))) at (zeros count ++ inBits width value) ⌝ }
-{
-    if count + width <= 32 {
-        field(buf, at, count + width, value);
-        return;
-    }
-    zeros(buf, at, count);
-    field(buf, at + count, width, value);
 }

@@ -1,6 +1,7 @@
 // Runs the unmarked cases of document 01 and prints what comes back; the gate compares it with the file stdout.
 use bits::BitPos;
 use bits::Cursor;
+use bits::Pen;
 use read_words::Read;
 
 mod say;
@@ -82,8 +83,9 @@ fn write_rice(buf: &mut [u8], at: usize, k: usize, w: u32) {
     if ((8 * buf.len() - at) as u64) < write_words::rice::count(k, w) {
         return;
     }
-    let next = write_words::rice::write(buf, BitPos::new(at), k, w);
-    say::number(b"written up to bit ", next.bit() as u64);
+    let pen = Pen::open(buf, BitPos::new(at));
+    let after_word = write_words::rice::write(buf, pen, k, w);
+    say::number(b"written up to bit ", after_word.close(buf).bit() as u64);
 }
 
 fn write_variable_byte(buf: &mut [u8], at: usize, w: u32) {
@@ -99,8 +101,9 @@ fn write_variable_byte(buf: &mut [u8], at: usize, w: u32) {
     if ((8 * buf.len() - at) as u64) < write_words::variable_byte::count(w) {
         return;
     }
-    let next = write_words::variable_byte::write(buf, BitPos::new(at), w);
-    say::number(b"written up to bit ", next.bit() as u64);
+    let pen = Pen::open(buf, BitPos::new(at));
+    let after_word = write_words::variable_byte::write(buf, pen, w);
+    say::number(b"written up to bit ", after_word.close(buf).bit() as u64);
 }
 
 // Counts in bits, without a buffer.

@@ -20,6 +20,6 @@ pub fn write_end(buf: &mut [u8], start: BitPos) -> Wrote
     }
     // the mark's fourth zero tells the byte to whose end the zeros go
     let end = start.after(3).byte().end();
-    bits::write::zeros(buf, at, end.bit() - at);
+    bits::write::field(buf, at, end.bit() - at, 0);
     Wrote::Done(end)
 }

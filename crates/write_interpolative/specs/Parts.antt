@@ -2,7 +2,7 @@
 use mathlib.Core.Path.{_≡_}
 use mathlib.Core.Bool.{Bool}
 use mathlib.Core.List.{List, _++_}
-use Prim.Native.Nat.{ℕ, suc, _+_, _-_, _/_}
+use Prim.Native.Nat.{ℕ, suc, _+_, _-_, _/_, _^_, _<_}
 use lib.ListN.{length, take, drop}
 use Rattle.layout.specs.Bits.{inBits}
 use Rattle.format.specs.Codes.{delta}
@@ -20,8 +20,10 @@ image ts start n low hi = part n low hi .bits (elements ts start n)
 pub record Ready (ts : List ℕ) (start n low hi : ℕ) : Type 0 where
   pub ok : part n low hi .ok (elements ts start n)
 
--- s is their middle: those left of it and those right of it are parts, and their bits are its own, then those of the two
+-- s is their middle: its offset has a width that holds it, those left of it and those right of it are parts, and their bits are its
+-- own, then those of the two
 pub record Halves (ts : List ℕ) (start n low hi s : ℕ) : Type 0 where
+  pub held : s - (low + (n - 1) / 2) < 2 ^ width (hi + 2 - (low + n))
   pub left : Ready ts start ((n - 1) / 2) low (s - 1)
   pub right : Ready ts (start + (n - 1) / 2 + 1) (n / 2) (s + 1) hi
   pub whole : image ts start n low hi

@@ -2,13 +2,12 @@
 ghost use mathlib.Core.Path.{_≡_};
 ghost use Prim.Native.Nat.{_+_, _-_, _*_, _/_, _^_, _≤_, _<_};
 ghost use lib.ListN.{length, getD};
-ghost use Rattle.layout.specs.Bits.{bitsOf, put};
-ghost use Rattle.format.specs.Limits.{longestBuffer, longestList, largestInstant};
+ghost use Rattle.format.specs.Limits.{longestList, largestInstant};
 ghost use Rattle.format.specs.Interpolative.{width, interpolative};
 ghost use Rattle.format.specs.Laws.Interpolative.{NeverFalls};
-ghost use Rattle.write_words.specs.Written.{Written};
+ghost use Rattle.bits.specs.Pen.{Room, Drawn};
 ghost use Rattle.write_interpolative.specs.Parts.{image, Ready, Halves, Body};
-use bits::BitPos;
+use bits::Pen;
 use bits::length;
 use write_words::delta;
 
@@ -54,36 +53,35 @@ fn count_part(values: &[u32], start: usize, n: usize, low: usize, hi: usize) -> 
     own + left + right
 }
 
-// Writes them, and tells the bit after.
+// Writes them.
 fn write_part(
     buf: &mut [u8],
-    at: usize,
+    pen: Pen,
     values: &[u32],
     start: usize,
     n: usize,
     low: usize,
     hi: usize,
-) -> usize
+) -> Pen
     requires { ⌜ Ready (now values) start n low hi ⌝ }
     requires room { ⌜ (start < low) × (low + n ≤ hi + 1) × (hi ≤ start + n + largestInstant) × (start + n ≤ length (now values)) × (start + n ≤ longestList) ⌝ }
-    requires space { ⌜ (at + length (image (now values) start n low hi) ≤ 8 * length (now buf)) × (length (now buf) ≤ longestBuffer) ⌝ }
-    ensures next { λ r. ⌜ r ≡ at + length (image (now (values .entry)) start n low hi) ⌝ }
-    ensures written { λ r. ⌜ bitsOf (now (buf .exit)) ≡ put (bitsOf (now (buf .entry))) at (image (now (values .entry)) start n low hi) ⌝ }
+    requires space { ⌜ Room (image (now values) start n low hi) (now buf) pen ⌝ }
+    ensures { λ r. ⌜ Drawn (image (now (values .entry)) start n low hi) (now (buf .entry)) pen (now (buf .exit)) r ⌝ }
 {
     if n == 0 {
-        return at;
+        return pen;
     }
     let own = width(hi + 2 - (low + n));
     let s = middle(values, start, n, low, hi);
     let i = (n - 1) / 2;
-    bits::write::field(buf, at, own, (s - (low + i)) as u32);
+    let after_middle = pen.field(buf, own, (s - (low + i)) as u32);
     // those left of the middle end below it; those right of it begin above
     let left_hi = s - 1;
     let right_start = start + i + 1;
     let j = n / 2;
     let right_low = s + 1;
-    let next = write_part(buf, at + own, values, start, i, low, left_hi);
-    write_part(buf, next, values, right_start, j, right_low, hi)
+    let after_left = write_part(buf, after_middle, values, start, i, low, left_hi);
+    write_part(buf, after_left, values, right_start, j, right_low, hi)
 }
 
 // The last of the instants, which has so many others before it.
@@ -107,26 +105,25 @@ pub fn count(values: &[u32]) -> u64
     delta::count(last + 1) + count_part(values, 0, others, 1, last as usize + others) as u64
 }
 
-pub fn write(buf: &mut [u8], at: BitPos, values: &[u32]) -> BitPos
+pub fn write(buf: &mut [u8], pen: Pen, values: &[u32]) -> Pen
     requires { ⌜ NeverFalls 0 (now values) × (length (now values) ≤ longestList) ⌝ }
-    requires room { ⌜ (at .0 + length (interpolative (length (now values)) .bits (now values)) ≤ 8 * length (now buf)) × (length (now buf) ≤ longestBuffer) ⌝ }
-    ensures { λ r. ⌜ Written (interpolative (length (now (values .entry))) .bits) (now (values .entry)) (now (buf .entry)) at (now (buf .exit)) r ⌝ }
+    requires room { ⌜ Room (interpolative (length (now values)) .bits (now values)) (now buf) pen ⌝ }
+    ensures { λ r. ⌜ Drawn (interpolative (length (now (values .entry))) .bits (now (values .entry))) (now (buf .entry)) pen (now (buf .exit)) r ⌝ }
 {
     let n = values.len();
     if n == 0 {
-        return at;
+        return pen;
     }
     let others = n - 1;
     let last = last(values, others);
-    let after_last = delta::write(buf, at, last + 1);
-    let next = write_part(
+    let after_last = delta::write(buf, pen, last + 1);
+    write_part(
         buf,
-        after_last.bit(),
+        after_last,
         values,
         0,
         others,
         1,
         last as usize + others,
-    );
-    BitPos::new(next)
+    )
 }

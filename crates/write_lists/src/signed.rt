@@ -1,13 +1,13 @@
 // Corrections.
 ghost use mathlib.Core.Path.{_≡_};
-ghost use Prim.Native.Nat.{_+_, _*_, _≤_};
+ghost use Prim.Native.Nat.{_≤_};
 ghost use lib.IntN.{pos};
 ghost use lib.ListN.{length};
 ghost use Rattle.format.specs.Kinds.{Corrections, ListOf};
+ghost use Rattle.bits.specs.Pen.{Room, Drawn};
 ghost use Rattle.write_words.specs.Words.{imageBy, Known};
-ghost use Rattle.write_words.specs.Written.{Written};
 ghost use Rattle.write_lists.specs.Images.{images};
-use bits::BitPos;
+use bits::Pen;
 use write_words::Words;
 use write_words::by_code;
 
@@ -24,13 +24,13 @@ pub fn count(code: Words, values: &[i32]) -> u64
     total
 }
 
-pub fn write(buf: &mut [u8], at: BitPos, code: Words, values: &[i32]) -> BitPos
+pub fn write(buf: &mut [u8], pen: Pen, code: Words, values: &[i32]) -> Pen
     requires { ⌜ Known code × ListOf Corrections (pos 0) (now values) ⌝ }
-    requires room { ⌜ (at .0 + length (images (imageBy code) Corrections (now values)) ≤ 8 * length (now buf)) × (length (now buf) ≤ 65536) ⌝ }
-    ensures { λ r. ⌜ Written (images (imageBy code) Corrections) (now (values .entry)) (now (buf .entry)) at (now (buf .exit)) r ⌝ }
+    requires room { ⌜ Room (images (imageBy code) Corrections (now values)) (now buf) pen ⌝ }
+    ensures { λ r. ⌜ Drawn (images (imageBy code) Corrections (now (values .entry))) (now (buf .entry)) pen (now (buf .exit)) r ⌝ }
 {
     let n = values.len();
-    let mut next = at;
+    let mut next = pen;
     let mut i = 0;
     while i < n {
         next = by_code::write(buf, next, code, lists::signed::word(values[i]));

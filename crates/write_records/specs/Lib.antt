@@ -1,4 +1,5 @@
 pub mod Bodies
 pub mod Images
 pub mod Put
+pub mod Written
 pub mod Laws

@@ -4,7 +4,8 @@ ghost use Prim.Native.Nat.{_+_, _*_, _≤_};
 ghost use lib.ListN.{length};
 ghost use Rattle.format.specs.Limits.{longestBuffer};
 ghost use Rattle.format.specs.Writing.{Puts};
-ghost use Rattle.write_words.specs.Written.{Written};
+ghost use Rattle.bits.specs.Pen.{Room, Drawn};
+ghost use Rattle.write_records.specs.Written.{Written};
 ghost use Rattle.write_records.specs.Images.{recordImage, bodyImage};
 ghost use Rattle.write_records.specs.Bodies.{SignedRecord};
 ghost use Rattle.write_records.specs.Put.{putOutcome};
@@ -12,6 +13,7 @@ use crate::Body;
 use crate::Put;
 use crate::heading;
 use bits::BitPos;
+use bits::Pen;
 use headings::Heading;
 
 fn count_body(h: Heading, values: &[i32]) -> u64
@@ -25,15 +27,15 @@ fn count_body(h: Heading, values: &[i32]) -> u64
     }
 }
 
-fn write_body(buf: &mut [u8], at: BitPos, h: Heading, values: &[i32]) -> BitPos
+fn write_body(buf: &mut [u8], pen: Pen, h: Heading, values: &[i32]) -> Pen
     requires { ⌜ SignedRecord h (now values) ⌝ }
-    requires room { ⌜ (at .0 + length (bodyImage h (now values)) ≤ 8 * length (now buf)) × (length (now buf) ≤ longestBuffer) ⌝ }
-    ensures { λ r. ⌜ Written (bodyImage h) (now (values .entry)) (now (buf .entry)) at (now (buf .exit)) r ⌝ }
+    requires room { ⌜ Room (bodyImage h (now values)) (now buf) pen ⌝ }
+    ensures { λ r. ⌜ Drawn (bodyImage h (now (values .entry))) (now (buf .entry)) pen (now (buf .exit)) r ⌝ }
 {
     let code = h.code;
     match crate::body_of(code) {
-        Body::ByWords(words) => write_lists::signed::write(buf, at, words, values),
-        Body::ByHalves => at,
+        Body::ByWords(words) => write_lists::signed::write(buf, pen, words, values),
+        Body::ByHalves => pen,
     }
 }
 
@@ -47,10 +49,12 @@ pub fn count(h: Heading, values: &[i32]) -> u64
 pub fn write(buf: &mut [u8], at: BitPos, h: Heading, values: &[i32]) -> BitPos
     requires { ⌜ SignedRecord h (now values) ⌝ }
     requires room { ⌜ (at .0 + length (recordImage h (now values)) ≤ 8 * length (now buf)) × (length (now buf) ≤ longestBuffer) ⌝ }
-    ensures { λ r. ⌜ Written (recordImage h) (now (values .entry)) (now (buf .entry)) at (now (buf .exit)) r ⌝ }
+    ensures { λ r. ⌜ Written (recordImage h (now (values .entry))) (now (buf .entry)) at (now (buf .exit)) r ⌝ }
 {
-    let body_at = heading::write(buf, at, h, values.len());
-    write_body(buf, body_at, h, values)
+    let pen = Pen::open(buf, at);
+    let after_heading = heading::write(buf, pen, h, values.len());
+    let after_body = write_body(buf, after_heading, h, values);
+    after_body.close(buf)
 }
 
 // Written where it has room.

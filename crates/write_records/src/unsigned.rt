@@ -6,7 +6,8 @@ ghost use lib.IntN.{pos};
 ghost use lib.ListN.{length};
 ghost use Rattle.format.specs.Limits.{longestBuffer};
 ghost use Rattle.format.specs.Writing.{Puts};
-ghost use Rattle.write_words.specs.Written.{Written};
+ghost use Rattle.bits.specs.Pen.{Room, Drawn};
+ghost use Rattle.write_records.specs.Written.{Written};
 ghost use Rattle.write_records.specs.Images.{recordImage, bodyImage};
 ghost use Rattle.write_records.specs.Bodies.{UnsignedRecord};
 ghost use Rattle.write_records.specs.Put.{putOutcome};
@@ -14,6 +15,7 @@ use crate::Body;
 use crate::Put;
 use crate::heading;
 use bits::BitPos;
+use bits::Pen;
 use headings::Heading;
 
 fn count_body(h: Heading, values: &[u32]) -> u64
@@ -29,17 +31,17 @@ fn count_body(h: Heading, values: &[u32]) -> u64
     }
 }
 
-fn write_body(buf: &mut [u8], at: BitPos, h: Heading, values: &[u32]) -> BitPos
+fn write_body(buf: &mut [u8], pen: Pen, h: Heading, values: &[u32]) -> Pen
     requires { ⌜ UnsignedRecord h (now values) ⌝ }
-    requires room { ⌜ (at .0 + length (bodyImage h (map pos (now values))) ≤ 8 * length (now buf)) × (length (now buf) ≤ longestBuffer) ⌝ }
-    ensures { λ r. ⌜ Written (bodyImage h) (map pos (now (values .entry))) (now (buf .entry)) at (now (buf .exit)) r ⌝ }
+    requires room { ⌜ Room (bodyImage h (map pos (now values))) (now buf) pen ⌝ }
+    ensures { λ r. ⌜ Drawn (bodyImage h (map pos (now (values .entry)))) (now (buf .entry)) pen (now (buf .exit)) r ⌝ }
 {
     let code = h.code;
     let kind = h.kind;
     let instants = crate::is_instants(kind);
     match crate::body_of(code) {
-        Body::ByWords(words) => write_lists::unsigned::write(buf, at, words, instants, values),
-        Body::ByHalves => write_interpolative::write(buf, at, values),
+        Body::ByWords(words) => write_lists::unsigned::write(buf, pen, words, instants, values),
+        Body::ByHalves => write_interpolative::write(buf, pen, values),
     }
 }
 
@@ -53,10 +55,12 @@ pub fn count(h: Heading, values: &[u32]) -> u64
 pub fn write(buf: &mut [u8], at: BitPos, h: Heading, values: &[u32]) -> BitPos
     requires { ⌜ UnsignedRecord h (now values) ⌝ }
     requires room { ⌜ (at .0 + length (recordImage h (map pos (now values))) ≤ 8 * length (now buf)) × (length (now buf) ≤ longestBuffer) ⌝ }
-    ensures { λ r. ⌜ Written (recordImage h) (map pos (now (values .entry))) (now (buf .entry)) at (now (buf .exit)) r ⌝ }
+    ensures { λ r. ⌜ Written (recordImage h (map pos (now (values .entry)))) (now (buf .entry)) at (now (buf .exit)) r ⌝ }
 {
-    let body_at = heading::write(buf, at, h, values.len());
-    write_body(buf, body_at, h, values)
+    let pen = Pen::open(buf, at);
+    let after_heading = heading::write(buf, pen, h, values.len());
+    let after_body = write_body(buf, after_heading, h, values);
+    after_body.close(buf)
 }
 
 // Written where it has room.

@@ -3,14 +3,14 @@ ghost use mathlib.Core.Path.{_≡_};
 ghost use Prim.Native.Nat.{_≤_};
 ghost use lib.ListN.{length};
 ghost use Rattle.format.specs.Codes.{Word};
-ghost use Rattle.write_words.specs.Written.{Room, Written};
+ghost use Rattle.bits.specs.Pen.{Room, Drawn};
 ghost use Rattle.write_words.specs.Words.{imageBy, Known};
 use crate::Words;
 use crate::delta;
 use crate::gamma;
 use crate::rice;
 use crate::variable_byte;
-use bits::BitPos;
+use bits::Pen;
 
 pub fn count(code: Words, w: u32) -> u64
     requires { ⌜ Known code × Word w ⌝ }
@@ -24,14 +24,14 @@ pub fn count(code: Words, w: u32) -> u64
     }
 }
 
-pub fn write(buf: &mut [u8], at: BitPos, code: Words, w: u32) -> BitPos
-    requires { ⌜ Known code × Room (imageBy code) w (now buf) at ⌝ }
-    ensures { λ r. ⌜ Written (imageBy code) w (now (buf .entry)) at (now (buf .exit)) r ⌝ }
+pub fn write(buf: &mut [u8], pen: Pen, code: Words, w: u32) -> Pen
+    requires { ⌜ Known code × Word w × Room (imageBy code w) (now buf) pen ⌝ }
+    ensures { λ r. ⌜ Drawn (imageBy code w) (now (buf .entry)) pen (now (buf .exit)) r ⌝ }
 {
     match code {
-        Words::Gamma => gamma::write(buf, at, w),
-        Words::Delta => delta::write(buf, at, w),
-        Words::Rice(k) => rice::write(buf, at, k, w),
-        Words::VariableByte => variable_byte::write(buf, at, w),
+        Words::Gamma => gamma::write(buf, pen, w),
+        Words::Delta => delta::write(buf, pen, w),
+        Words::Rice(k) => rice::write(buf, pen, k, w),
+        Words::VariableByte => variable_byte::write(buf, pen, w),
     }
 }

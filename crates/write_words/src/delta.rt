@@ -3,9 +3,9 @@ ghost use mathlib.Core.Path.{_≡_};
 ghost use Prim.Native.Nat.{_≤_};
 ghost use lib.ListN.{length};
 ghost use Rattle.format.specs.Codes.{Word, delta};
-ghost use Rattle.write_words.specs.Written.{Room, Written};
+ghost use Rattle.bits.specs.Pen.{Room, Drawn};
 use crate::gamma;
-use bits::BitPos;
+use bits::Pen;
 use bits::length;
 
 pub fn count(w: u32) -> u64
@@ -16,12 +16,13 @@ pub fn count(w: u32) -> u64
     gamma::count(digits as u32) + digits as u64
 }
 
-pub fn write(buf: &mut [u8], at: BitPos, w: u32) -> BitPos
-    requires { ⌜ Room delta w (now buf) at ⌝ }
-    ensures { λ r. ⌜ Written delta w (now (buf .entry)) at (now (buf .exit)) r ⌝ }
+pub fn write(buf: &mut [u8], pen: Pen, w: u32) -> Pen
+    requires { ⌜ Word w × Room (delta w) (now buf) pen ⌝ }
+    ensures { λ r. ⌜ Drawn (delta w) (now (buf .entry)) pen (now (buf .exit)) r ⌝ }
 {
     let digits = length::length(w);
-    let after_length = gamma::write(buf, at, digits as u32);
-    bits::write::field(buf, after_length.bit(), digits, w);
-    after_length.after(digits)
+    // a length has 6 digits at most, so its gamma word is one field
+    let size = length::length(digits as u32);
+    let after_length = pen.field(buf, size - 1 + size, digits as u32);
+    after_length.field(buf, digits, w)
 }

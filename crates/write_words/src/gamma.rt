@@ -3,8 +3,8 @@ ghost use mathlib.Core.Path.{_≡_};
 ghost use Prim.Native.Nat.{_≤_};
 ghost use lib.ListN.{length};
 ghost use Rattle.format.specs.Codes.{Word, gamma};
-ghost use Rattle.write_words.specs.Written.{Room, Written};
-use bits::BitPos;
+ghost use Rattle.bits.specs.Pen.{Room, Drawn};
+use bits::Pen;
 use bits::length;
 
 pub fn count(w: u32) -> u64
@@ -14,12 +14,10 @@ pub fn count(w: u32) -> u64
     2 * length::length(w) as u64 - 1
 }
 
-pub fn write(buf: &mut [u8], at: BitPos, w: u32) -> BitPos
-    requires { ⌜ Room gamma w (now buf) at ⌝ }
-    ensures { λ r. ⌜ Written gamma w (now (buf .entry)) at (now (buf .exit)) r ⌝ }
+pub fn write(buf: &mut [u8], pen: Pen, w: u32) -> Pen
+    requires { ⌜ Word w × Room (gamma w) (now buf) pen ⌝ }
+    ensures { λ r. ⌜ Drawn (gamma w) (now (buf .entry)) pen (now (buf .exit)) r ⌝ }
 {
     let digits = length::length(w);
-    let start = at.bit();
-    bits::write::led(buf, start, digits - 1, digits, w);
-    BitPos::new(start + (digits - 1 + digits))
+    pen.led(buf, digits - 1, digits, w)
 }

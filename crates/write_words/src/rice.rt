@@ -3,8 +3,8 @@ ghost use mathlib.Core.Path.{_≡_};
 ghost use Prim.Native.Nat.{_≤_};
 ghost use lib.ListN.{length};
 ghost use Rattle.format.specs.Codes.{Word, rice};
-ghost use Rattle.write_words.specs.Written.{Room, Written};
-use bits::BitPos;
+ghost use Rattle.bits.specs.Pen.{Room, Drawn};
+use bits::Pen;
 use bits::small::power;
 
 pub fn count(k: usize, w: u32) -> u64
@@ -15,14 +15,12 @@ pub fn count(k: usize, w: u32) -> u64
     zeros as u64 + 1 + k as u64
 }
 
-pub fn write(buf: &mut [u8], at: BitPos, k: usize, w: u32) -> BitPos
-    requires { ⌜ Room (rice k) w (now buf) at × (k ≤ 31) ⌝ }
-    ensures { λ r. ⌜ Written (rice k) w (now (buf .entry)) at (now (buf .exit)) r ⌝ }
+pub fn write(buf: &mut [u8], pen: Pen, k: usize, w: u32) -> Pen
+    requires { ⌜ Word w × Room (rice k w) (now buf) pen × (k ≤ 31) ⌝ }
+    ensures { λ r. ⌜ Drawn (rice k w) (now (buf .entry)) pen (now (buf .exit)) r ⌝ }
 {
     let zeros = ((w - 1) >> k) as usize;
-    let start = at.bit();
     let one = power(k);
     // the one and what is left are one field of k + 1 bits
-    bits::write::led(buf, start, zeros, k + 1, one + (w - 1) % one);
-    BitPos::new(start + (zeros + (k + 1)))
+    pen.led(buf, zeros, k + 1, one + (w - 1) % one)
 }

@@ -5,8 +5,8 @@ ghost use Prim.Native.Nat.{_/_, _^_, _≤_, _<_};
 ghost use lib.ListN.{length};
 ghost use Rattle.layout.specs.Bits.{inBits};
 ghost use Rattle.format.specs.Codes.{Word, digits, another, variableByte};
-ghost use Rattle.write_words.specs.Written.{Room, Written};
-use bits::BitPos;
+ghost use Rattle.bits.specs.Pen.{Room, Drawn};
+use bits::Pen;
 use bits::length;
 
 // How many groups hold a word.
@@ -27,22 +27,21 @@ pub fn count(w: u32) -> u64
 // The flag and the group after which so many more come.
 fn unit(w: u32, later: usize) -> u32
     requires { ⌜ later < 5 ⌝ }
-    ensures { λ r. ⌜ inBits 8 r ≡ another later ∷ inBits 7 (w / 128 ^ later) ⌝ }
+    ensures { λ r. ⌜ (inBits 8 r ≡ another later ∷ inBits 7 (w / 128 ^ later)) × (r < 256) ⌝ }
 {
     let group = (w >> (7 * later)) % 128;
     if later == 0 { group } else { 128 + group }
 }
 
-pub fn write(buf: &mut [u8], at: BitPos, w: u32) -> BitPos
-    requires { ⌜ Room variableByte w (now buf) at ⌝ }
-    ensures { λ r. ⌜ Written variableByte w (now (buf .entry)) at (now (buf .exit)) r ⌝ }
+pub fn write(buf: &mut [u8], pen: Pen, w: u32) -> Pen
+    requires { ⌜ Word w × Room (variableByte w) (now buf) pen ⌝ }
+    ensures { λ r. ⌜ Drawn (variableByte w) (now (buf .entry)) pen (now (buf .exit)) r ⌝ }
 {
     let mut later = groups(w);
-    let mut next = at.bit();
+    let mut next = pen;
     while 0 < later {
         later -= 1;
-        bits::write::field(buf, next, 8, unit(w, later));
-        next += 8;
+        next = next.field(buf, 8, unit(w, later));
     }
-    BitPos::new(next)
+    next
 }

@@ -13,7 +13,7 @@ use mir.Syntax.{w8}
 use mir.Val.{Fits}
 use Rattle.layout.specs.Bits.{Bytes, inBits, bitsOf, put}
 use Rattle.layout.specs.Laws.Bits.{val, length-inBits, inBits-split, inBits-low, inBits-cat, val-append, val-inBits, val-lt, length-bitsOf, bitsOf-append}
-use Rattle.layout.specs.Laws.Windows.{val-step, window-front}
+use Rattle.layout.specs.Laws.Windows.{put-step, val-step, window-front}
 
 -- b, with the w bits above the lowest k replaced by those of v
 unfoldable pub patched : ℕ → ℕ → ℕ → ℕ → ℕ
@@ -109,6 +109,28 @@ module _ (s : List ℕ) (q r w k v : ℕ) (inside : q < length s) (e : r + (w + 
     where
       regroup : (a b c d f : List Bool) → a ++ ((b ++ (c ++ d)) ++ f) ≡ (a ++ b) ++ (c ++ (d ++ f))
       regroup a b c d f = simp append-assoc
+
+-- a whole byte, written
+pub byte-write : (s : List ℕ) (q b : ℕ) → q < length s → bitsOf (set s q b) ≡ put (bitsOf s) (8 * q) (inBits 8 b)
+byte-write s q b h =
+    let a = bitsOf (take q s) in
+    let z = bitsOf (drop (suc q) s) in
+    let old = getD s q 0 in
+    let l : length a ≡ 8 * q = length-bitsOf (take q s) ∙ ap (λ (m : ℕ). 8 * m) (length-take-le q s (omega arith)) in
+    ap bitsOf (set-split s q b h)
+    ∙ at-byte s q b
+    ∙ sym (put-middle a (inBits 8 old) z (inBits 8 b) (8 * q) l (length-inBits 8 old ∙ sym (length-inBits 8 b)))
+    ∙ ap (λ (x : List Bool). put x (8 * q) (inBits 8 b)) (sym (at-byte s q old) ∙ ap bitsOf (sym (split-at s q 0 h)))
+
+-- x in i bytes and then one more, with rest bits still to come
+pub byte-more : {m r : List Bool} (l : List Bool) (q i x rest b : ℕ) → 8 * q ≤ length l → m ≡ put l (8 * q) (inBits (8 * i) (x / 2 ^ (rest + 8))) → b ≡ x / 2 ^ rest % 2 ^ 8
+    → r ≡ put m (8 * (q + i)) (inBits 8 b) → r ≡ put l (8 * q) (inBits (8 * i + 8) (x / 2 ^ rest))
+byte-more {m} l q i x rest b h e f g =
+    let d : 8 * (q + i) ≡ 8 * q + 8 * i = omega arith in
+    g
+    ∙ ap₂ (λ (k n : ℕ). put m k (inBits 8 n)) d f
+    ∙ ap (λ (y : List Bool). put y (8 * q + 8 * i) (inBits 8 (x / 2 ^ rest % 2 ^ 8))) e
+    ∙ put-step l (8 * q) (8 * i) 8 rest x h
 
 pub patched-byte : (b w k v : ℕ) → w + k ≤ 8 → b < 256 → v < 2 ^ w → patched b w k v < 256
 patched-byte b w k v h hb hv =

@@ -1,19 +1,18 @@
-use mathlib.Core.Path.{_≡_, sym, ap, _∙_}
+use mathlib.Core.Path.{_≡_, ap, _∙_}
 use mathlib.Core.List.{[]}
-use Rattle.layout.specs.Bits.{bitsOf}
-use Rattle.layout.specs.Laws.Bits.{length-bitsOf}
-use Rattle.layout.specs.Laws.Windows.{put-nil}
+use Rattle.layout.specs.Laws.Bits.{length-inBits}
+use Rattle.bits.specs.Laws.Pen.{drawn-none}
 use Rattle.write_interpolative.specs.Parts.{image}
-use Rattle.write_interpolative.specs.Laws.Parts.{image-none, halves-length, halves-written}
+use Rattle.write_interpolative.specs.Laws.Parts.{image-none, halves-length, halves-drawn}
 use borrow.Author.Needs.{needs}
 use native.Mathlib.Omega.{arith}
-use Prim.Native.Nat.{ℕ, _<_}
+use Prim.Native.Nat.{ℕ, _+_, _-_, _/_, _<_}
 use borrow.Fn.Kinds.{In}
 use borrow.Fn.PlainCycle.{Measures, is, falls, and}
 use Rattle.write_interpolative.proofs.write_part.Reads as write-part
 use Rattle.write_interpolative.proofs.write_part.Kinds as write-part-kinds
 use Rattle.write_interpolative.proofs.+write_part.Lts-write_part as write-part-lts
-use Rattle.bits.proofs.write.field.Reads as field-reads
+use Rattle.bits.proofs.Pen.field.Reads as field-reads
 use Rattle.write_interpolative.proofs.middle.Reads as middle-reads
 use Rattle.write_interpolative.proofs.width.Reads as width-reads
 use Rattle.write_interpolative.proofs.+write_part.{statement}
@@ -43,7 +42,7 @@ write-part-returns : (t : ℕ) → write-part-lts.Need-returns (
 write-part-returns t c =
     let a = c .before .before .before .args in
     let e : image (a .values .now) (a .start) (a .n) (a .low) (a .hi) ≡ [] = ap (λ (n : ℕ). image (a .values .now) (a .start) n (a .low) (a .hi)) (c .if1 .taken) ∙ image-none (a .values .now) (a .start) (a .low) (a .hi) in
-    rw e (omega arith, sym (put-nil (bitsOf (a .buf .now)) (a .at)))
+    drawn-none (a .buf .now) (a .pen) e (c .before .before .before .pre .1 .1 .1 .within)
 
 write-part-add-width : (t : ℕ) → write-part-lts.Need-add-width (
   width-reads.Asked,
@@ -167,7 +166,9 @@ write-part-field-requires t c κs =
     let a = c .before .before .before .before .before .before .args in
     let m = c .before in
     let e = halves-length (a .values .now) (a .start) (a .n) (a .low) (a .hi) (m .middle .result) (m .middle .ensures .0) in
-    (omega (arith, m .before .width .ensures), omega arith, omega arith)
+    let w = m .before .width .ensures in
+    let r = c .before .before .before .before .before .before .pre .1 .1 .1 in
+    (r .within, omega (arith, r .fits, e, w .0), w .1, rw (w .0) (m .middle .ensures .0 .held))
 
 write-part-sub-left-hi : (t : ℕ) → write-part-lts.Need-sub-left-hi (
   width-reads.Asked,
@@ -217,18 +218,6 @@ write-part-add-right-low : (t : ℕ) → write-part-lts.Need-add-right-low (
 ) (write-part-at t) write-part.Post
 write-part-add-right-low t c = search needs
 
-write-part-add-write-part : (t : ℕ) → write-part-lts.Need-add-write-part (
-  width-reads.Asked,
-  width-reads.Learnt,
-  middle-reads.Asked,
-  middle-reads.Learnt,
-  field-reads.Asked,
-  field-reads.Learnt,
-  write-part-below t,
-  write-part.Post,
-) (write-part-at t) write-part.Post
-write-part-add-write-part t c = search needs
-
 -- here and below `search h` finds whichever half is meant: that they come in this order is shown where the bits are, at the return
 write-part-write-part-requires : (t : ℕ) → write-part-lts.Need-write-part-requires (
   width-reads.Asked,
@@ -252,7 +241,7 @@ write-part-write-part-requires t c κs =
         search h,
         (
           (omega arith, omega arith, omega arith, omega arith, omega arith),
-          (omega (arith, m .before .width .ensures, f .field .kept .0), omega (arith, f .field .kept .0)),
+          record { within = f .field .ensures .within; fits = omega (arith, s .pre .1 .1 .1 .fits, e, m .before .width .ensures .0, f .field .kept .1 .0, f .field .ensures .told, length-inBits (m .before .width .result) (m .middle .result - (a .low + (a .n - 1) / 2))) },
         ),
       ),
     )
@@ -280,7 +269,7 @@ write-part-write-part-requires-2 t c κs =
         search h,
         (
           (omega arith, omega arith, omega arith, omega arith, omega arith),
-          (omega (arith, m .before .width .ensures, f .field .kept .0, p .write-part .kept .0, p .write-part .ensures .0), omega (arith, f .field .kept .0, p .write-part .kept .0)),
+          record { within = p .write-part .ensures .within; fits = omega (arith, s .pre .1 .1 .1 .fits, e, m .before .width .ensures .0, f .field .kept .1 .0, p .write-part .kept .0, p .write-part .ensures .told, f .field .ensures .told, length-inBits (m .before .width .result) (m .middle .result - (a .low + (a .n - 1) / 2))) },
         ),
       ),
     )
@@ -316,11 +305,7 @@ write-part-returns-2 t c =
     let q = c .before .before in
     let w = m .before .width in
     let h = m .middle .ensures .0 in
-    let e = halves-length (a .values .now) (a .start) (a .n) (a .low) (a .hi) (m .middle .result) h in (
-      omega (arith, w .ensures, q .write-part2 .ensures .0, p .write-part .ensures .0),
-      halves-written (a .values .now) (a .start) (a .n) (a .low) (a .hi) (m .middle .result) h (bitsOf (a .buf .now)) (a .at) (w .result) (p .write-part .result) (rw length-bitsOf (omega (arith, s .pre .1))) (w .ensures .0)
-          (f .field .ensures) (p .write-part .ensures .1) (p .write-part .ensures .0) (q .write-part2 .ensures .1),
-    )
+    halves-drawn (a .values .now) (a .start) (a .n) (a .low) (a .hi) (m .middle .result) h (w .result) (s .pre .1 .1 .1 .within) (w .ensures .0) (f .field .ensures) (p .write-part .ensures) (q .write-part2 .ensures)
 
 pub +write-part-spec : {M : Type 1} → statement M
 +write-part-spec = close μ-write-part λ t. write-part-lts.spec (
@@ -350,7 +335,6 @@ pub +write-part-spec : {M : Type 1} → statement M
     (write-part-add-right-start t)
     (write-part-add-right-start-2 t)
     (write-part-add-right-low t)
-    (write-part-add-write-part t)
     (write-part-write-part-requires t)
     (write-part-write-part-requires-2 t)
     (write-part-same-length t)

@@ -1,16 +1,13 @@
 -- The whole body: the last instant in delta, then the elements before the last as one part.
-use mathlib.Core.Path.{_≡_, refl, sym, ap, ap₂, _∙_, subst}
-use mathlib.Core.Bool.{Bool}
+use mathlib.Core.Path.{_≡_, sym, ap, ap₂, _∙_, subst}
 use mathlib.Core.List.{List, [], _++_}
 use Prim.Native.Nat.{ℕ, suc, _+_, _-_, _≤_}
 use native.Mathlib.Omega.{arith}
 use lib.ListN.{length, getD, take, length-append}
-use Rattle.layout.specs.Bits.{put}
 use Rattle.format.specs.Limits.{largestInstant}
 use Rattle.format.specs.Codes.{delta}
 use Rattle.format.specs.Interpolative.{part, rising, interpolative}
 use Rattle.format.specs.Laws.Interpolative.{NeverFalls, interpolative-holds}
-use Rattle.layout.specs.Laws.Windows.{put-both}
 use Rattle.write_interpolative.specs.Parts.{elements, image, Body}
 
 pub body-none : (ts : List ℕ) → length ts ≡ 0 → interpolative (length ts) .bits ts ≡ []
@@ -36,10 +33,3 @@ body-some ts others last h e l =
 module _ (ts : List ℕ) (others last : ℕ) (b : Body ts others last) where
   pub body-length : length (interpolative (length ts) .bits ts) ≡ length (delta (last + 1)) + length (image ts 0 others 1 (last + others))
   body-length = ap length (b .whole) ∙ length-append (delta (last + 1)) (image ts 0 others 1 (last + others))
-
-  pub body-written : {l₁ l₂ : List Bool} (l : List Bool) (at next : ℕ) → at ≤ length l → l₁ ≡ put l at (delta (last + 1)) → next ≡ at + length (delta (last + 1))
-      → l₂ ≡ put l₁ next (image ts 0 others 1 (last + others)) → l₂ ≡ put l at (interpolative (length ts) .bits ts)
-  body-written {l₁} l at next fits p f q =
-      let x : List Bool = delta (last + 1) in
-      let y : List Bool = image ts 0 others 1 (last + others) in
-      put-both l x y at (length x) fits refl p (q ∙ ap (λ (b : ℕ). put l₁ b y) f) ∙ ap (put l at) (sym (b .whole))

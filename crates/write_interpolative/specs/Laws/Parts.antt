@@ -1,4 +1,4 @@
--- A part's elements by their middle and their halves, and the bits of the three written one after the other.
+-- A part's elements by their middle and their halves, and the bits of the three drawn one after the other.
 use mathlib.Core.Path.{_≡_, refl, sym, ap, ap₂, _∙_, subst}
 use mathlib.Core.Bool.{Bool}
 use mathlib.Core.List.{List, [], _∷_, _++_, append-assoc}
@@ -6,13 +6,15 @@ use Prim.Native.Nat.{ℕ, zero, suc, _+_, _-_, _/_, _≤_, _<_}
 use native.Mathlib.Omega.{arith}
 use lib.ListN.{length, getD, take, drop, length-append, length-take, length-drop}
 use lib.Seq.{take-nil, take-take, drop-drop, getD-take, getD-drop}
-use Rattle.layout.specs.Bits.{inBits, put}
+use Rattle.layout.specs.Bits.{inBits}
 use Rattle.layout.specs.Layout.{Layout, bind}
 use Rattle.layout.specs.Laws.Bits.{length-inBits}
 use Rattle.format.specs.Codes.{size}
 use Rattle.format.specs.Interpolative.{width, offset, middle, part, rising}
 use Rattle.format.specs.Laws.Parts.{Node, node, part-node, part-none}
-use Rattle.layout.specs.Laws.Windows.{put-both}
+use Rattle.bits.specs.declared.Pen.{Pen}
+use Rattle.bits.specs.Pen.{Inside, Drawn}
+use Rattle.bits.specs.Laws.Pen.{drawn-both}
 use Rattle.write_interpolative.specs.Parts.{elements, image, Ready, Halves}
 
 pub size-width : (possible : ℕ) → size (possible - 1) ≡ width possible
@@ -99,7 +101,7 @@ halves ts start n low hi s some room there here r =
     let h = halves-ok ts start n low hi i j v s g there here r in
     let a = h .0 .0 .0 in
     let b = h .0 .0 .1 in
-    (record { left = record { ok = h .1 .0 }; right = record { ok = h .1 .1 }; whole = whole-is ts start n low hi i j v s g there here }, a, omega arith)
+    (record { held = h .0 .1; left = record { ok = h .1 .0 }; right = record { ok = h .1 .1 }; whole = whole-is ts start n low hi i j v s g there here }, a, omega arith)
 
 -- ---- the bits of the middle and of the halves
 
@@ -108,17 +110,13 @@ module _ (ts : List ℕ) (start n low hi s : ℕ) (h : Halves ts start n low hi 
       ≡ width (hi + 2 - (low + n)) + (length (image ts start ((n - 1) / 2) low (s - 1)) + length (image ts (start + (n - 1) / 2 + 1) (n / 2) (s + 1) hi))
   halves-length = ap length (h .whole) ∙ simp (length-append, length-inBits)
 
-  pub halves-written : {l₁ l₂ l₃ : List Bool} (l : List Bool) (at own next : ℕ) → at ≤ length l → own ≡ width (hi + 2 - (low + n))
-      → l₁ ≡ put l at (inBits own (s - (low + (n - 1) / 2)))
-      → l₂ ≡ put l₁ (at + own) (image ts start ((n - 1) / 2) low (s - 1))
-      → next ≡ at + own + length (image ts start ((n - 1) / 2) low (s - 1))
-      → l₃ ≡ put l₂ next (image ts (start + (n - 1) / 2 + 1) (n / 2) (s + 1) hi)
-      → l₃ ≡ put l at (image ts start n low hi)
-  halves-written {l₂ = l₂} l at own next fits e p q f r =
+  pub halves-drawn : {before middle half after : List ℕ} {pen next further last : Pen} (own : ℕ) → Inside pen (length before) → own ≡ width (hi + 2 - (low + n))
+      → Drawn (inBits own (s - (low + (n - 1) / 2))) before pen middle next
+      → Drawn (image ts start ((n - 1) / 2) low (s - 1)) middle next half further
+      → Drawn (image ts (start + (n - 1) / 2 + 1) (n / 2) (s + 1) hi) half further after last
+      → Drawn (image ts start n low hi) before pen after last
+  halves-drawn own fits e p q r =
       let x : List Bool = inBits own (s - (low + (n - 1) / 2)) in
       let y : List Bool = image ts start ((n - 1) / 2) low (s - 1) in
       let z : List Bool = image ts (start + (n - 1) / 2 + 1) (n / 2) (s + 1) hi in
-      let k : own ≡ length x = sym (length-inBits own (s - (low + (n - 1) / 2))) in
-      let m : next ≡ at + length (x ++ y) = f ∙ omega (arith, length-append x y) in
-      put-both l (x ++ y) z at (length (x ++ y)) fits refl (put-both l x y at own fits k p q) (r ∙ ap (λ (b : ℕ). put l₂ b z) m)
-      ∙ ap (put l at) (append-assoc x y z ∙ ap (λ (w : ℕ). inBits w (s - (low + (n - 1) / 2)) ++ (y ++ z)) e ∙ sym (h .whole))
+      drawn-both fits (append-assoc x y z ∙ ap (λ (w : ℕ). inBits w (s - (low + (n - 1) / 2)) ++ (y ++ z)) e ∙ sym (h .whole)) (drawn-both fits refl p q) r

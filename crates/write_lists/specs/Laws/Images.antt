@@ -1,4 +1,4 @@
--- The words of a list, counted and written from the front.
+-- The words of a list, counted and drawn from the front.
 use mathlib.Core.Path.{_≡_, refl, sym, ap, _∙_, subst}
 use mathlib.Core.Bool.{Bool}
 use mathlib.Core.List.{List, [], _∷_, _++_}
@@ -6,12 +6,13 @@ use Prim.Native.Nat.{ℕ, suc, _+_, _≤_}
 use native.Mathlib.Omega.{arith}
 use lib.IntN.{ℤ, pos, negsuc}
 use lib.ListN.{length, drop, length-append, drop-of-length-le}
-use Rattle.layout.specs.Bits.{put}
 use Rattle.layout.specs.Layout.{word, only, chain}
-use Rattle.layout.specs.Laws.Windows.{put-nil, put-more, length-put}
 use Rattle.format.specs.Codes.{Word}
 use Rattle.format.specs.Kinds.{Kind, Corrections, Fits, ListOf, wordOf}
 use Rattle.format.specs.Records.{wordsBy}
+use Rattle.bits.specs.declared.Pen.{Pen}
+use Rattle.bits.specs.Pen.{Room, Drawn, Begun}
+use Rattle.bits.specs.Laws.Pen.{begun-none, begun-told, begun-more, begun-all}
 use Rattle.lists.specs.Laws.Judging.{At, at-rest}
 use Rattle.write_lists.specs.Images.{imagesAfter, images}
 
@@ -80,47 +81,27 @@ module _ (image : ℕ → List Bool) (t : Kind) where
       pub counted-all : length vs ≤ i → total ≡ length (images image t vs)
       counted-all h = let e : length (rest i before) ≡ 0 = ap length (rest-none before h) in omega (arith, e, c .sum)
 
-    -- ---- written: with what is left put after it, a buffer is as it will be
-    pub record Begun (first : List Bool) (start : ℕ) (i : ℕ) (before : ℤ) (buffer : List Bool) (next : ℕ) : Type 0 where
+    -- ---- drawn: the words before place i are, and those from it on are left
+    pub record Midway (first : List ℕ) (pen : Pen) (i : ℕ) (before : ℤ) (buffer : List ℕ) (next : Pen) : Type 0 where
       pub list : Listed i before
-      pub fits : next + length (rest i before) ≡ start + length (images image t vs)
-      pub same : length buffer ≡ length first
-      pub bits : put buffer next (rest i before) ≡ put first start (images image t vs)
+      pub begun : Begun (images image t vs) (rest i before) first pen buffer next
 
-    module _ {first : List Bool} {start : ℕ} where
-      pub begun-none : ListOf t (pos 0) vs → Begun first start 0 (pos 0) first start
+    module _ {first : List ℕ} {pen : Pen} (room : Room (images image t vs) first pen) where
+      pub midway-none : ListOf t (pos 0) vs → Midway first pen 0 (pos 0) first pen
       unfolding Listed rest
-      begun-none l = record { list = l; fits = refl; same = refl; bits = refl }
+      midway-none l = record { list = l; begun = begun-none (room .within) }
 
-      module _ {i : ℕ} {before : ℤ} {buffer : List Bool} {next : ℕ} (b : Begun first start i before buffer next) (room : start + length (images image t vs) ≤ length first) where
-        pub begun-fits : {v : ℤ} → At vs i v → Fits t before v
-        begun-fits a = split before a (b .list) .0
+      module _ {i : ℕ} {before : ℤ} {buffer : List ℕ} {next : Pen} (m : Midway first pen i before buffer next) where
+        pub midway-fits : {v : ℤ} → At vs i v → Fits t before v
+        midway-fits a = split before a (m .list) .0
 
-        pub begun-room : {v : ℤ} {w : ℕ} → At vs i v → w ≡ wordOf t before v → next + length (image w) ≤ length first
-        begun-room {v} {w} a d =
+        pub midway-room : {v : ℤ} {w : ℕ} → At vs i v → w ≡ wordOf t before v → length buffer ≡ length first → Room (image w) buffer next
+        midway-room {v} {w} a d e =
             let h = ap length (rest-from before a d) ∙ length-append (image w) (rest (i + 1) v) in
-            omega (arith, h, b .fits)
+            record { within = m .begun .drawn .within; fits = omega (arith, h, e, begun-told (room .within) (m .begun), room .fits) }
 
-        pub begun-more : {v : ℤ} {w : ℕ} {after : List Bool} {then : ℕ} → At vs i v → w ≡ wordOf t before v → after ≡ put buffer next (image w) → then ≡ next + length (image w)
-            → Begun first start (i + 1) v after then
-        begun-more {v} {w} {after} {then} a d e n =
-            let x = image w in
-            let y = rest (i + 1) v in
-            let s = rest-from before a d in
-            let h = ap length s ∙ length-append x y in
-            let r = begun-room a d in
-            let l : length (put buffer next x) ≡ length buffer = length-put buffer next x (omega (arith, r, b .same)) in
-            let p : put (put buffer next x) (next + length x) y ≡ put buffer next (x ++ y) = put-more buffer next x y (omega (arith, r, b .same)) in
-            let q : put after then y ≡ put (put buffer next x) (next + length x) y = λ j. put (e j) (n j) y in
-            record {
-              list = split before a (b .list) .1;
-              fits = omega (arith, h, n, b .fits);
-              same = ap length e ∙ l ∙ b .same;
-              bits = q ∙ p ∙ ap (put buffer next) (sym s) ∙ b .bits;
-            }
+        pub midway-more : {v : ℤ} {w : ℕ} {after : List ℕ} {last : Pen} → At vs i v → w ≡ wordOf t before v → Drawn (image w) buffer next after last → Midway first pen (i + 1) v after last
+        midway-more a d x = record { list = split before a (m .list) .1; begun = begun-more (room .within) (m .begun) (rest-from before a d) x }
 
-        pub begun-all : length vs ≤ i → (buffer ≡ put first start (images image t vs)) × (next ≡ start + length (images image t vs))
-        begun-all h =
-            let e = rest-none before h in
-            let z : length (rest i before) ≡ 0 = ap length e in
-            (sym (put-nil buffer next) ∙ ap (put buffer next) (sym e) ∙ b .bits, omega (arith, z, b .fits))
+        pub midway-all : length vs ≤ i → Drawn (images image t vs) first pen buffer next
+        midway-all h = begun-all (room .within) (m .begun) (rest-none before h)

@@ -1,20 +1,18 @@
--- How long the words of each code are, and how they are written part by part.
+-- How long the words of each code are, and the parts of which they are written.
 use mathlib.Core.Path.{_≡_, refl, sym, ap, ap₂, _∙_, subst}
 use mathlib.Core.Bool.{Bool, true, false}
 use mathlib.Core.List.{List, _∷_, _++_}
 use Prim.Native.Nat.{ℕ, zero, suc, _+_, _-_, _*_, _/_, _%_, _^_, _≤_, _<_}
-use native.Mathlib.Nat.{zero-add, one-mul, mod-lt, mod-eq-sub-div-mul}
+use native.Mathlib.Nat.{lt-of-lt-of-le, zero-add, one-mul, mod-lt, mod-eq-sub-div-mul}
 use native.Mathlib.Omega.{arith}
-use lib.Pow.{pow-pos, pow-add}
+use lib.Pow.{pow-pos, pow-add, pow-mono}
 use lib.ListN.{length, length-append, length-replicate}
-use Rattle.layout.specs.Bits.{odd, inBits, Bytes, zeros, put}
-use Rattle.layout.specs.Laws.Bits.{bytes-one, length-inBits, inBits-cat, inBits-mod}
-use Rattle.layout.specs.Laws.Windows.{put-more, put-both}
+use Rattle.layout.specs.Bits.{odd, inBits, zeros}
+use Rattle.layout.specs.Laws.Bits.{length-inBits, inBits-cat, inBits-mod}
 use Rattle.format.specs.Laws.Digits.{digits-hold}
 use Rattle.format.specs.Codes.{Word, digits, size, binary, gamma, delta, rice, another, groups, variableByte}
-use Rattle.bits.specs.Laws.Length.{power-seven}
-use Rattle.bits.specs.declared.BitPos.{BitPos}
-use Rattle.write_words.specs.Written.{Written}
+use Rattle.layout.specs.Laws.Windows.{zeros-lead}
+use Rattle.bits.specs.Laws.Length.{size-le, size-pos, power-seven}
 
 -- ---- gamma and delta
 
@@ -40,12 +38,20 @@ pub size-holds : (n w : ℕ) → n ≡ size w → Word w → w < 2 ^ n
 unfolding size
 size-holds n w e h = subst (λ (k : ℕ). w < 2 ^ k) (sym e) (digits-hold 2 32 w (omega (arith, h .1)))
 
-pub delta-written : {m r : List Bool} (l : List Bool) (at n w next : ℕ) → at ≤ length l → n ≡ size w → next ≡ at + length (gamma n)
-    → m ≡ put l at (gamma n) → r ≡ put m next (inBits n w) → r ≡ put l at (delta w)
+-- a word of gamma as one field
+pub gamma-field : (n w : ℕ) → n ≡ size w → Word w → inBits (n - 1 + n) w ≡ gamma w
+gamma-field n w e h = zeros-lead (n - 1) n (size-holds n w e h) ∙ gamma-led n w e
+
+pub gamma-holds : (n w : ℕ) → n ≡ size w → Word w → w < 2 ^ (n - 1 + n)
+gamma-holds n w e h = let l : n ≤ n - 1 + n = omega arith in lt-of-lt-of-le (size-holds n w e h) (pow-mono l)
+
+-- how many digits a word has is a word
+pub size-word : (n w : ℕ) → n ≡ size w → Word w → Word n
+size-word n w e h = omega (arith, e, size-pos w h, size-le w)
+
+pub delta-parts : (n w : ℕ) → n ≡ size w → gamma n ++ inBits n w ≡ delta w
 unfolding delta binary
-delta-written {m} l at n w next h e f p q =
-    put-both l (gamma n) (inBits n w) at (length (gamma n)) h refl p (q ∙ ap (λ (k : ℕ). put m k (inBits n w)) f)
-    ∙ ap (λ (k : ℕ). put l at (gamma k ++ inBits k w)) e
+delta-parts n w e = ap (λ (k : ℕ). gamma k ++ inBits k w) e
 
 -- ---- Rice
 
@@ -74,7 +80,7 @@ rice-holds k r one e h = let p : 2 ^ (k + 1) ≡ 2 ^ k * 2 = pow-add 2 k 1 in om
 
 -- ---- variable-byte
 
-length-groups : (g w : ℕ) → length (groups g w) ≡ 8 * g
+pub length-groups : (g w : ℕ) → length (groups g w) ≡ 8 * g
 unfolding groups
 length-groups zero w = refl
 length-groups (suc g) w =
@@ -102,17 +108,7 @@ earlier-unit w g h = inBits-cat 1 7 1 (mod-lt (w / 2 ^ (7 * g)) (omega arith)) �
     follows zero h = absurd (omega arith)
     follows (suc g) h = refl
 
--- one unit of 8 bits more is written
-pub put-unit : (l : List Bool) (next g w u : ℕ) → next ≤ length l → inBits 8 u ≡ another g ∷ inBits 7 (w / 128 ^ g)
-    → put (put l next (inBits 8 u)) (next + 8) (groups g w) ≡ put l next (groups (suc g) w)
+-- a unit of 8 bits, and those after it
+pub unit-first : (g w u : ℕ) → inBits 8 u ≡ another g ∷ inBits 7 (w / 128 ^ g) → groups (suc g) w ≡ inBits 8 u ++ groups g w
 unfolding groups
-put-unit l next g w u h e =
-    ap (λ (k : ℕ). put (put l next (inBits 8 u)) (next + k) (groups g w)) (sym (length-inBits 8 u))
-    ∙ put-more l next (inBits 8 u) (groups g w) h
-    ∙ ap (λ (x : List Bool). put l next (x ++ groups g w)) e
-
--- ---- two outcomes that satisfy a writer's contract are equal
-
-pub written-one : {A : Type 0} {image : A → List Bool} {a : A} {before after after′ : List ℕ} {at next next′ : BitPos} → Bytes after → Bytes after′
-    → Written image a before at after next → Written image a before at after′ next′ → (after ≡ after′) × (next ≡ next′)
-written-one {after = after} {after′ = after′} h l x y = (bytes-one after after′ h l (x .bits ∙ sym (y .bits)), ap (λ (n : ℕ). record { 0 = n }) (x .told ∙ sym (y .told)))
+unit-first g w u e = ap (λ (x : List Bool). x ++ groups g w) (sym e)

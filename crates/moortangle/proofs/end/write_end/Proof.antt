@@ -1,7 +1,8 @@
-use mathlib.Core.Path.{_≡_, ap₂, _∙_}
+use mathlib.Core.Path.{_≡_, ap, ap₂, _∙_}
 use Prim.Native.Nat.{ℕ, _+_, _-_, _*_, _/_}
-use Rattle.layout.specs.Bits.{bitsOf, zeros, put}
+use Rattle.layout.specs.Bits.{inBits, bitsOf, put}
 use Rattle.format.specs.Answers.{Start}
+use Rattle.layout.specs.Laws.Bits.{inBits-zero}
 use Rattle.bits.specs.Laws.Bytes.{all-bytes}
 use Rattle.moortangle.specs.Laws.End.{end-buffer-long, end-start-outside, end-full, end-done}
 use native.Mathlib.Omega.{arith}
@@ -46,11 +47,11 @@ end-requires c κs = search needs
 bit-requires-2 : tie.Need-bit-requires-2
 bit-requires-2 c κs = search needs
 
-sub-zeros : tie.Need-sub-zeros
-sub-zeros c = search needs
+sub-field : tie.Need-sub-field
+sub-field c = search needs
 
-zeros-requires : tie.Need-zeros-requires
-zeros-requires c κs = search needs
+field-requires : tie.Need-field-requires
+field-requires c κs = search needs
 
 same-length : tie.Need-same-length
 same-length c = search needs
@@ -64,11 +65,11 @@ returns-4 c =
     let a = b .before .before .args in
     let before = a .buf .now in
     let start = a .start .0 in
-    let after = z .zeros .last .0 in
+    let after = z .field .last .0 in
     let stop : e .end .result .0 ≡ 8 * ((start + 3) / 8) + 8 = omega (arith, e .end .ensures, e .before .byte .ensures, e .before .before .after .ensures) in
     end-done before start (e .end .result .0) after (place (room .before)) (omega (arith, room .if3 .left, b .bit .ensures)) stop
     (all-bytes after (c .slice-known2 .given))
-    (z .zeros .ensures ∙ ap₂ (λ (i j : ℕ). put (bitsOf before) i (zeros (j - i))) (b .bit .ensures) (z .before .bit2 .ensures))
+    (z .field .ensures ∙ ap₂ (λ (i j : ℕ). put (bitsOf before) i (inBits (j - i) 0)) (b .bit .ensures) (z .before .bit2 .ensures) ∙ ap (put (bitsOf before) start) (inBits-zero (e .end .result .0 - start)))
 
 pub write-end-spec : {M : Type 1} → statement M
 write-end-spec =
@@ -85,7 +86,7 @@ write-end-spec =
     byte-requires
     end-requires
     bit-requires-2
-    sub-zeros
-    zeros-requires
+    sub-field
+    field-requires
     same-length
     returns-4)

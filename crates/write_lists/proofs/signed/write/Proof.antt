@@ -1,16 +1,13 @@
 use mathlib.Core.Path.{_≡_, _∙_}
-use Prim.Native.Nat.{_+_, _-_, _≤_}
+use Prim.Native.Nat.{_-_, _≤_}
 use lib.IntN.{ℤ, pos}
 use lib.ListN.{length, getD}
 use mir.Syntax.{w32}
 use mir.Facts.{toZ-ofZ}
-use Rattle.layout.specs.Bits.{bitsOf}
-use Rattle.layout.specs.Laws.Bits.{length-bitsOf}
 use Rattle.format.specs.Kinds.{Corrections}
 use Rattle.lists.specs.Laws.Judging.{at-signed}
 use Rattle.write_words.specs.Words.{imageBy}
-use Rattle.write_lists.specs.Images.{images}
-use Rattle.write_lists.specs.Laws.Images.{correction-word, Begun, begun-none, begun-fits, begun-room, begun-more, begun-all}
+use Rattle.write_lists.specs.Laws.Images.{correction-word, Midway, midway-none, midway-fits, midway-room, midway-more, midway-all}
 use borrow.Author.Needs.{needs, sfits-of}
 use native.Mathlib.Omega.{arith}
 use Rattle.write_lists.proofs.signed.write.Statement.{statement}
@@ -18,7 +15,7 @@ use Rattle.write_lists.proofs.signed.write.Tie as tie
 
 abbrev Inv-loop : tie.InvT-loop
 Inv-loop buf₀ code values n next₀ i₀ buf next i =
-    ((before : ℤ) × Begun (imageBy code) Corrections values (bitsOf buf₀) (next₀ .0) i before (bitsOf buf) (next .0))
+    ((before : ℤ) × Midway (imageBy code) Corrections values buf₀ next₀ i before buf next)
     × (i ≤ length values)
     × (length buf ≡ length buf₀)
 
@@ -29,7 +26,7 @@ loop-holds : tie.Need-loop-holds Inv-loop μ-loop
 loop-holds c =
     let u = c .before in
     let a = u .args in
-    ((pos 0, begun-none (imageBy (a .code)) Corrections (a .values .now) (u .pre .0 .1)), omega arith, omega arith)
+    ((pos 0, midway-none (imageBy (a .code)) Corrections (a .values .now) (u .pre .1) (u .pre .0 .1)), omega arith, omega arith)
 
 mul-word : tie.Need-mul-word Inv-loop μ-loop
 mul-word c = search needs
@@ -42,20 +39,18 @@ word-requires c κs =
     let t = c .before .before in
     let u = t .before .before .before in
     let a = u .args in
-    let room : a .at .0 + length (images (imageBy (a .code)) Corrections (a .values .now)) ≤ length (bitsOf (a .buf .now)) = rw (length-bitsOf (a .buf .now)) (u .pre .1 .0) in
     let i = t .before .loop .i in
     let b = t .before .loop .inv .0 in
     let x = getD (a .values .now) i (pos 0) in
     let v = at-signed (a .values .now) i (t .loop-test .taken) in
     let e = toZ-ofZ {w = w32} {z = x} (sfits-of (c .word-arg .given)) in
-    rw e (begun-fits (imageBy (a .code)) Corrections (a .values .now) (b .1) room v .0)
+    rw e (midway-fits (imageBy (a .code)) Corrections (a .values .now) (u .pre .1) (b .1) v .0)
 
 write-requires : tie.Need-write-requires Inv-loop μ-loop
 write-requires c κs =
     let t = c .before .before .before in
     let u = t .before .before .before in
     let a = u .args in
-    let room : a .at .0 + length (images (imageBy (a .code)) Corrections (a .values .now)) ≤ length (bitsOf (a .buf .now)) = rw (length-bitsOf (a .buf .now)) (u .pre .1 .0) in
     let i = t .before .loop .i in
     let b = t .before .loop .inv .0 in
     let x = getD (a .values .now) i (pos 0) in
@@ -63,7 +58,7 @@ write-requires c κs =
     let e = toZ-ofZ {w = w32} {z = x} (sfits-of (c .before .word-arg .given)) in
     let w = c .word .ensures in
     let d = rw e at (w .0) in
-    (u .pre .0 .0, record { word = w .1; fits = omega (arith, begun-room (imageBy (a .code)) Corrections (a .values .now) (b .1) room v (d ∙ correction-word (b .0) x), length-bitsOf (a .buf .now), t .before .loop .inv .2); small = omega (arith, u .pre .1 .1, t .before .loop .inv .2) })
+    (u .pre .0 .0, w .1, midway-room (imageBy (a .code)) Corrections (a .values .now) (u .pre .1) (b .1) v (d ∙ correction-word (b .0) x) (t .before .loop .inv .2))
 
 add-i : tie.Need-add-i Inv-loop μ-loop
 add-i c = search needs
@@ -76,7 +71,6 @@ loop-again c =
     let t = c .before .before .before .before .before .before in
     let u = t .before .before .before in
     let a = u .args in
-    let room : a .at .0 + length (images (imageBy (a .code)) Corrections (a .values .now)) ≤ length (bitsOf (a .buf .now)) = rw (length-bitsOf (a .buf .now)) (u .pre .1 .0) in
     let i = t .before .loop .i in
     let b = t .before .loop .inv .0 in
     let x = getD (a .values .now) i (pos 0) in
@@ -84,7 +78,7 @@ loop-again c =
     let e = toZ-ofZ {w = w32} {z = x} (sfits-of (c .before .before .before .before .word-arg .given)) in
     let d = rw e at (c .before .before .before .word .ensures .0) in
     let w = c .before .before .write .ensures in
-    ((x, begun-more (imageBy (a .code)) Corrections (a .values .now) (b .1) room v (d ∙ correction-word (b .0) x) (w .bits) (w .told)), omega arith, omega arith)
+    ((x, midway-more (imageBy (a .code)) Corrections (a .values .now) (u .pre .1) (b .1) v (d ∙ correction-word (b .0) x) w), omega arith, omega arith)
 
 same-length : tie.Need-same-length Inv-loop μ-loop
 same-length c = search needs
@@ -93,9 +87,7 @@ returns : tie.Need-returns Inv-loop μ-loop
 returns c =
     let u = c .before .before .before in
     let a = u .args in
-    let room : a .at .0 + length (images (imageBy (a .code)) Corrections (a .values .now)) ≤ length (bitsOf (a .buf .now)) = rw (length-bitsOf (a .buf .now)) (u .pre .1 .0) in
-    let x = begun-all (imageBy (a .code)) Corrections (a .values .now) (c .before .loop .inv .0 .1) room (omega arith) in
-    record { bits = x .0; told = x .1 }
+    midway-all (imageBy (a .code)) Corrections (a .values .now) (u .pre .1) (c .before .loop .inv .0 .1) (omega arith)
 
 pub write-spec : {M : Type 1} → statement M
 write-spec =

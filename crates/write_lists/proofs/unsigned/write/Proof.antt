@@ -1,15 +1,12 @@
 use mathlib.Core.Path.{_≡_}
 use mathlib.Core.List.{map}
-use Prim.Native.Nat.{_+_, _-_, _≤_}
+use Prim.Native.Nat.{_-_, _≤_}
 use lib.IntN.{pos}
 use lib.ListN.{length, length-map}
-use Rattle.layout.specs.Bits.{bitsOf}
-use Rattle.layout.specs.Laws.Bits.{length-bitsOf}
 use Rattle.lists.specs.Judged.{unsignedKind}
 use Rattle.lists.specs.Laws.Judging.{at-unsigned}
 use Rattle.write_words.specs.Words.{imageBy}
-use Rattle.write_lists.specs.Images.{images}
-use Rattle.write_lists.specs.Laws.Images.{Begun, begun-none, begun-fits, begun-room, begun-more, begun-all}
+use Rattle.write_lists.specs.Laws.Images.{Midway, midway-none, midway-fits, midway-room, midway-more, midway-all}
 use borrow.Author.Needs.{needs}
 use native.Mathlib.Omega.{arith}
 use Rattle.write_lists.proofs.unsigned.write.Statement.{statement}
@@ -17,7 +14,7 @@ use Rattle.write_lists.proofs.unsigned.write.Tie as tie
 
 abbrev Inv-loop : tie.InvT-loop
 Inv-loop buf₀ code instants values n next₀ before₀ i₀ buf next before i =
-    Begun (imageBy code) (unsignedKind instants) (map pos values) (bitsOf buf₀) (next₀ .0) i (pos before) (bitsOf buf) (next .0)
+    Midway (imageBy code) (unsignedKind instants) (map pos values) buf₀ next₀ i (pos before) buf next
     × (i ≤ length values)
     × (length buf ≡ length buf₀)
 
@@ -28,7 +25,7 @@ loop-holds : tie.Need-loop-holds Inv-loop μ-loop
 loop-holds c =
     let u = c .before .before in
     let a = u .args in
-    (begun-none (imageBy (a .code)) (unsignedKind (a .instants)) (map pos (a .values .now)) (u .pre .0 .1), omega arith, omega arith)
+    (midway-none (imageBy (a .code)) (unsignedKind (a .instants)) (map pos (a .values .now)) (u .pre .1) (u .pre .0 .1), omega arith, omega arith)
 
 mul-v : tie.Need-mul-v Inv-loop μ-loop
 mul-v c = search needs
@@ -41,21 +38,19 @@ word-requires c κs =
     let t = c .before .before in
     let u = t .before .before .before .before in
     let a = u .args in
-    let room : a .at .0 + length (images (imageBy (a .code)) (unsignedKind (a .instants)) (map pos (a .values .now))) ≤ length (bitsOf (a .buf .now)) = rw (length-bitsOf (a .buf .now)) (u .pre .1 .0) in
     let b = t .before .loop .inv .0 in
     let v = at-unsigned (a .values .now) (t .before .loop .i) (t .loop-test .taken) in
-    begun-fits (imageBy (a .code)) (unsignedKind (a .instants)) (map pos (a .values .now)) b room v
+    midway-fits (imageBy (a .code)) (unsignedKind (a .instants)) (map pos (a .values .now)) (u .pre .1) b v
 
 write-requires : tie.Need-write-requires Inv-loop μ-loop
 write-requires c κs =
     let t = c .before .before .before in
     let u = t .before .before .before .before in
     let a = u .args in
-    let room : a .at .0 + length (images (imageBy (a .code)) (unsignedKind (a .instants)) (map pos (a .values .now))) ≤ length (bitsOf (a .buf .now)) = rw (length-bitsOf (a .buf .now)) (u .pre .1 .0) in
     let b = t .before .loop .inv .0 in
     let v = at-unsigned (a .values .now) (t .before .loop .i) (t .loop-test .taken) in
     let w = c .word .ensures in
-    (u .pre .0 .0, record { word = w .1; fits = omega (arith, begun-room (imageBy (a .code)) (unsignedKind (a .instants)) (map pos (a .values .now)) b room v (w .0), length-bitsOf (a .buf .now), t .before .loop .inv .2); small = omega (arith, u .pre .1 .1, t .before .loop .inv .2) })
+    (u .pre .0 .0, w .1, midway-room (imageBy (a .code)) (unsignedKind (a .instants)) (map pos (a .values .now)) (u .pre .1) b v (w .0) (t .before .loop .inv .2))
 
 add-i : tie.Need-add-i Inv-loop μ-loop
 add-i c = search needs
@@ -68,11 +63,10 @@ loop-again c =
     let t = c .before .before .before .before .before .before in
     let u = t .before .before .before .before in
     let a = u .args in
-    let room : a .at .0 + length (images (imageBy (a .code)) (unsignedKind (a .instants)) (map pos (a .values .now))) ≤ length (bitsOf (a .buf .now)) = rw (length-bitsOf (a .buf .now)) (u .pre .1 .0) in
     let b = t .before .loop .inv .0 in
     let v = at-unsigned (a .values .now) (t .before .loop .i) (t .loop-test .taken) in
     let w = c .before .before .write .ensures in
-    (begun-more (imageBy (a .code)) (unsignedKind (a .instants)) (map pos (a .values .now)) b room v (c .before .before .before .word .ensures .0) (w .bits) (w .told), omega arith, omega arith)
+    (midway-more (imageBy (a .code)) (unsignedKind (a .instants)) (map pos (a .values .now)) (u .pre .1) b v (c .before .before .before .word .ensures .0) w, omega arith, omega arith)
 
 same-length : tie.Need-same-length Inv-loop μ-loop
 same-length c = search needs
@@ -81,9 +75,7 @@ returns : tie.Need-returns Inv-loop μ-loop
 returns c =
     let u = c .before .before .before .before in
     let a = u .args in
-    let room : a .at .0 + length (images (imageBy (a .code)) (unsignedKind (a .instants)) (map pos (a .values .now))) ≤ length (bitsOf (a .buf .now)) = rw (length-bitsOf (a .buf .now)) (u .pre .1 .0) in
-    let x = begun-all (imageBy (a .code)) (unsignedKind (a .instants)) (map pos (a .values .now)) (c .before .loop .inv .0) room (rw (length-map (a .values .now) pos) (omega arith)) in
-    record { bits = x .0; told = x .1 }
+    midway-all (imageBy (a .code)) (unsignedKind (a .instants)) (map pos (a .values .now)) (u .pre .1) (c .before .loop .inv .0) (rw (length-map (a .values .now) pos) (omega arith))
 
 pub write-spec : {M : Type 1} → statement M
 write-spec =

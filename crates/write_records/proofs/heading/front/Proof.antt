@@ -1,7 +1,7 @@
 use mathlib.Core.Path.{ap, _∙_}
 use Prim.Native.Nat.{ℕ, _+_, _*_, _^_, _≤_}
 use Rattle.headings.specs.Headings.{carried}
-use Rattle.write_records.specs.Laws.Images.{front-number, front-fits}
+use Rattle.write_records.specs.Laws.Images.{front-number, front-lt, front-fits}
 use native.Mathlib.Omega.{arith}
 use borrow.Author.Needs.{needs}
 use Rattle.write_records.proofs.heading.front.Statement.{statement}
@@ -51,9 +51,12 @@ returns : tie.Need-returns
 returns c =
     let p = c .before in
     let u = p .before .before .before .before in
-    front-number (u .args .h) (p .before .before .before .code-number .result) (p .before .before .kind-number .result) (p .power .result) (c .parameter .result)
-    (p .before .before .before .code-number .ensures .0) (p .before .before .kind-number .ensures .0) (p .before .before .kind-number .ensures .1)
-    (p .power .ensures .0 ∙ ap (λ (k : ℕ). 2 ^ k) (p .before .parameter-width .ensures .0)) (c .parameter .ensures) (u .pre)
+    let n = p .before .before .before .code-number in
+    let t = p .before .before .kind-number in
+    let w = p .power .ensures .0 ∙ ap (λ (k : ℕ). 2 ^ k) (p .before .parameter-width .ensures .0) in (
+      front-number (u .args .h) (n .result) (t .result) (p .power .result) (c .parameter .result) (n .ensures .0) (t .ensures .0) (t .ensures .1) w (c .parameter .ensures) (u .pre),
+      front-lt (u .args .h) (n .result) (t .result) (p .power .result) (c .parameter .result) (omega (arith, n .ensures .1, t .ensures .1)) w (c .parameter .ensures) (u .pre),
+    )
 
 pub front-spec : {M : Type 1} → statement M
 front-spec =

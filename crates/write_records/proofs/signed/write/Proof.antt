@@ -7,29 +7,45 @@ use borrow.Author.Needs.{needs}
 use Rattle.write_records.proofs.signed.write.Statement.{statement}
 use Rattle.write_records.proofs.signed.write.Tie as tie
 
+open-requires : tie.Need-open-requires
+open-requires c κs = search needs
+
 write-requires : tie.Need-write-requires
 write-requires c κs =
-    let u = c .before .before in
+    let o = c .before in
+    let u = o .before .before .before in
     let a = u .args in
     let e = length-record (a .h) (a .values .now) (length (a .values .now)) refl in
-    ((small-parameter (a .h) (a .values .now) (u .pre .0 .valid), u .pre .0 .valid .count), (omega (arith, e, u .pre .1 .0), u .pre .1 .1))
+    let p = o .open .ensures in
+    ((small-parameter (a .h) (a .values .now) (u .pre .0 .valid), u .pre .0 .valid .count), record { within = p .within; fits = omega (arith, e, p .told, u .pre .1 .0) })
 
 write-body-requires : tie.Need-write-body-requires
 write-body-requires c κs =
-    let u = c .before .before .before .before .before .before in
+    let g = c .before .before .before in
+    let o = g .before .before in
+    let u = o .before .before .before in
     let a = u .args in
     let e = length-record (a .h) (a .values .now) (length (a .values .now)) refl in
-    let w = c .before .before .before .write .ensures .told in
-    (u .pre .0, (omega (arith, e, w, u .pre .1 .0), omega (arith, u .pre .1 .1)))
+    let d = g .write .ensures in
+    (u .pre .0, record { within = d .within; fits = omega (arith, e, d .told, g .write .kept .0, o .open .ensures .told, u .pre .1 .0) })
+
+close-requires : tie.Need-close-requires
+close-requires c κs = search needs
 
 same-length : tie.Need-same-length
 same-length c = search needs
 
 returns : tie.Need-returns
 returns c =
-    let u = c .before .before .before .before .before .before .before .before .before in
+    let z = c .before .before in
+    let b = z .before .before .before .before in
+    let g = b .before .before .before .before in
+    let o = g .before .before in
+    let u = o .before .before .before in
     let a = u .args in
-    record-written (a .h) (a .values .now) (length (a .values .now)) refl (omega (arith, u .pre .1 .0)) (c .before .before .before .before .before .before .write .ensures) (c .before .before .write-body .ensures)
+    record-written (a .h) (a .values .now) (length (a .values .now)) refl (o .open .ensures) (g .write .ensures) (b .write-body .ensures) (z .close .ensures .0) (z .close .ensures .1)
 
 pub write-spec : {M : Type 1} → statement M
-write-spec = tie.close (tie.spec write-requires write-body-requires same-length returns)
+write-spec =
+    tie.close
+    (tie.spec open-requires write-requires write-body-requires close-requires same-length returns)

@@ -1,10 +1,7 @@
-use mathlib.Core.Path.{_∙_, ap₂}
-use mathlib.Core.Bool.{Bool}
-use mathlib.Core.List.{List}
-use Prim.Native.Nat.{ℕ, _-_, _%_}
+use Prim.Native.Nat.{_-_, _%_}
 use native.Mathlib.Nat.{mod-lt}
 use lib.Pow.{shr-le, pow-mono}
-use Rattle.layout.specs.Bits.{bitsOf, put}
+use Rattle.bits.specs.Laws.Pen.{drawn-as}
 use Rattle.write_words.specs.Laws.Writes.{length-rice, rice-led, rice-holds}
 use native.Mathlib.Omega.{arith}
 use borrow.Author.Needs.{needs}
@@ -23,9 +20,6 @@ shr-zeros c = search needs
 cast-zeros-2 : tie.Need-cast-zeros-2
 cast-zeros-2 c = omega (arith, shr-le (c .before .args .w - 1) (c .before .args .k))
 
-bit-requires : tie.Need-bit-requires
-bit-requires c κs = search needs
-
 power-requires : tie.Need-power-requires
 power-requires c κs = search needs
 
@@ -41,57 +35,26 @@ rem-led c = search needs
 add-led-2 : tie.Need-add-led-2
 add-led-2 c =
     let p = c .before in
-    let s = p .before .before .before in
-    let b = p .before .bit .ensures in
-    let l = length-rice (s .args .k) (s .args .w) in
-    omega (arith, mod-lt (s .args .w - 1) (p .power .ensures .1), p .power .ensures .0, pow-mono {i = s .args .k} {j = 31} (s .pre .1))
+    let s = p .before .before in
+    omega (arith, mod-lt (s .args .w - 1) (p .power .ensures .1), p .power .ensures .0, pow-mono {i = s .args .k} {j = 31} (s .pre .2))
 
 led-requires : tie.Need-led-requires
 led-requires c κs =
     let p = c .before in
-    let s = p .before .before .before in
-    let b = p .before .bit .ensures in
-    let l = length-rice (s .args .k) (s .args .w) in
-    (omega (arith, l, s .pre .0 .fits, b), omega (arith, s .pre .1), rice-holds (s .args .k) ((s .args .w - 1) % p .power .result) (p .power .result) (p .power .ensures .0) (mod-lt (s .args .w - 1) (p .power .ensures .1)), s .pre .0 .small)
-
-add-new : tie.Need-add-new
-add-new c = search needs
-
-add-new-2 : tie.Need-add-new-2
-add-new-2 c =
-    let p = c .before .before .before .before in
-    let s = p .before .before .before in
-    let b = p .before .bit .ensures in
-    let l = length-rice (s .args .k) (s .args .w) in
-    omega (arith, l, s .pre .0 .fits, s .pre .0 .small, s .pre .1, b)
-
-add-new-3 : tie.Need-add-new-3
-add-new-3 c =
-    let p = c .before .before .before .before in
-    let s = p .before .before .before in
-    let b = p .before .bit .ensures in
-    let l = length-rice (s .args .k) (s .args .w) in
-    omega (arith, l, s .pre .0 .fits, s .pre .0 .small, s .pre .1, b)
-
-new-requires : tie.Need-new-requires
-new-requires c κs = search needs
+    let s = p .before .before in
+    let r = s .pre .1 in
+    let one = p .power .result in
+    (r .within, omega (arith, r .fits, length-rice (s .args .k) (s .args .w)), omega (arith, s .pre .2), rice-holds (s .args .k) ((s .args .w - 1) % one) one (p .power .ensures .0) (mod-lt (s .args .w - 1) (p .power .ensures .1)))
 
 same-length : tie.Need-same-length
 same-length c = search needs
 
 returns : tie.Need-returns
 returns c =
-    let d = c .before .before .before in
+    let d = c .before .before in
     let p = d .before .before in
-    let s = p .before .before .before in
-    let b = p .before .bit in
-    let l = length-rice (s .args .k) (s .args .w) in
-    record {
-      bits =
-          d .led .ensures
-          ∙ ap₂ (λ (n : ℕ) (x : List Bool). put (bitsOf (s .args .buf .now)) n x) (b .ensures) (rice-led (s .args .k) (s .args .w) (p .power .result) (p .power .ensures .0));
-      told = omega (arith, l, c .new .ensures, b .ensures);
-    }
+    let s = p .before .before in
+    drawn-as (rice-led (s .args .k) (s .args .w) (p .power .result) (p .power .ensures .0)) (d .led .ensures)
 
 pub write-spec : {M : Type 1} → statement M
 write-spec =
@@ -101,16 +64,11 @@ write-spec =
     cast-zeros
     shr-zeros
     cast-zeros-2
-    bit-requires
     power-requires
     add-led
     sub-led
     rem-led
     add-led-2
     led-requires
-    add-new
-    add-new-2
-    add-new-3
-    new-requires
     same-length
     returns)

@@ -17,10 +17,10 @@ add-result : tie.Need-add-result
 add-result c = search needs
 
 returns : tie.Need-returns
-returns c = last-unit (c .before .args .w) (c .before .args .later) (omega arith)
+returns c = (last-unit (c .before .args .w) (c .before .args .later) (omega arith), omega arith)
 
 returns-2 : tie.Need-returns-2
-returns-2 c = earlier-unit (c .before .args .w) (c .before .args .later) (omega arith)
+returns-2 c = (earlier-unit (c .before .args .w) (c .before .args .later) (omega arith), omega arith)
 
 pub unit-spec : {M : Type 1} → statement M
 unit-spec = tie.close (tie.spec mul-group cast-group shr-group add-result returns returns-2)

@@ -1,25 +1,17 @@
-use mathlib.Core.Bool.{Bool}
-use mathlib.Core.List.{List}
-use mathlib.Core.Path.{_≡_, refl, sym, ap, ap₂, _∙_}
-use Prim.Native.Nat.{ℕ, suc, _+_, _-_, _*_, _≤_}
+use mathlib.Core.Path.{_≡_, refl, ap, _∙_}
+use Prim.Native.Nat.{ℕ, suc, _-_, _≤_}
 use lib.ListN.{length}
-use Rattle.layout.specs.Bits.{bitsOf, put}
-use Rattle.layout.specs.Laws.Bits.{length-bitsOf}
-use Rattle.layout.specs.Laws.Windows.{put-nil}
 use Rattle.format.specs.Codes.{groups, variableByte}
-use Rattle.write_words.specs.Laws.Writes.{length-variable-byte, put-unit}
+use Rattle.bits.specs.Pen.{Begun}
+use Rattle.bits.specs.Laws.Pen.{drawn-as, begun-none, begun-told, begun-more, begun-all}
+use Rattle.write_words.specs.Laws.Writes.{length-groups, length-variable-byte, unit-first}
 use borrow.Author.Needs.{needs}
 use native.Mathlib.Omega.{arith}
 use Rattle.write_words.proofs.variable_byte.write.Statement.{statement}
 use Rattle.write_words.proofs.variable_byte.write.Tie as tie
 
 abbrev Inv-loop : tie.InvT-loop
-Inv-loop buf₀ w later₀ next₀ buf later next =
-    (later ≤ later₀)
-    × (length buf ≡ length buf₀)
-    × (next + 8 * later ≡ next₀ + 8 * later₀)
-    × (next₀ + 8 * later₀ ≤ 8 * length buf₀)
-    × (put (bitsOf buf) next (groups later w) ≡ put (bitsOf buf₀) next₀ (groups later₀ w))
+Inv-loop buf₀ w later₀ next₀ buf later next = (later ≤ later₀) × (length buf ≡ length buf₀) × Begun (groups later₀ w) (groups later w) buf₀ next₀ buf next
 
 abbrev μ-loop : tie.MeasureT-loop
 μ-loop buf₀ w later₀ next₀ buf later next = later
@@ -27,13 +19,8 @@ abbrev μ-loop : tie.MeasureT-loop
 groups-requires : tie.Need-groups-requires Inv-loop μ-loop
 groups-requires c κs = search needs
 
-bit-requires : tie.Need-bit-requires Inv-loop μ-loop
-bit-requires c κs = search needs
-
 loop-holds : tie.Need-loop-holds Inv-loop μ-loop
-loop-holds c =
-    let s = c .before .before .before in
-    (omega arith, refl, refl, omega (arith, length-variable-byte (s .args .w)), refl)
+loop-holds c = (omega arith, refl, begun-none (c .before .before .pre .1 .within))
 
 sub-later : tie.Need-sub-later Inv-loop μ-loop
 sub-later c = search needs
@@ -42,10 +29,14 @@ unit-requires : tie.Need-unit-requires Inv-loop μ-loop
 unit-requires c κs = search needs
 
 field-requires : tie.Need-field-requires Inv-loop μ-loop
-field-requires c κs = search needs
-
-add-next : tie.Need-add-next Inv-loop μ-loop
-add-next c = search needs
+field-requires c κs =
+    let t = c .before .before .before in
+    let s = t .before .before .before in
+    let i = t .loop .inv in
+    let b = begun-told (s .pre .1 .within) (i .2) in
+    let g = t .before .groups in
+    let w = s .args .w in
+    (i .2 .drawn .within, omega (arith, b, i .1, s .pre .1 .fits, length-groups (t .loop .later) w, length-groups (g .result) w, length-variable-byte w, g .ensures .0), omega arith, c .unit .ensures .1)
 
 loop-less : tie.Need-loop-less Inv-loop μ-loop
 loop-less c = search needs
@@ -55,41 +46,21 @@ loop-again c =
     let f = c .before .before in
     let u = f .before in
     let t = u .before .before .before in
-    let w = t .before .before .before .before .args .w in
+    let s = t .before .before .before in
     let i = t .loop .inv in
-    let e : suc (t .loop .later - 1) ≡ t .loop .later = omega arith in (
-      omega arith,
-      f .field .kept .0 ∙ i .1,
-      omega arith,
-      i .3,
-      ap (λ (x : List Bool). put x (t .loop .next + 8) (groups (t .loop .later - 1) w)) (f .field .ensures)
-          ∙ put-unit (bitsOf (t .loop .buf)) (t .loop .next) (t .loop .later - 1) w (u .unit .result) (rw length-bitsOf (omega arith)) (u .unit .ensures)
-          ∙ ap (λ (n : ℕ). put (bitsOf (t .loop .buf)) (t .loop .next) (groups n w)) e
-          ∙ i .4,
-    )
-
-new-requires : tie.Need-new-requires Inv-loop μ-loop
-new-requires c κs = search needs
+    let e : t .loop .later ≡ suc (t .loop .later - 1) = omega arith in
+    (omega arith, f .field .kept .1 .0 ∙ i .1, begun-more (s .pre .1 .within) (i .2) (ap (λ (n : ℕ). groups n (s .args .w)) e ∙ unit-first (t .loop .later - 1) (s .args .w) (u .unit .result) (u .unit .ensures .0)) (f .field .ensures))
 
 same-length : tie.Need-same-length Inv-loop μ-loop
-same-length c = search needs
+same-length c = c .before .loop .inv .1
 
 returns : tie.Need-returns Inv-loop μ-loop
-unfolding groups variableByte
+unfolding variableByte groups
 returns c =
-    let t = c .before .before in
-    let b = t .before in
-    let s = b .before .before .before in
-    let w = s .args .w in
+    let t = c .before in
+    let s = t .before .before .before in
     let z : t .loop .later ≡ 0 = omega arith in
-    record {
-      bits =
-          sym (put-nil (bitsOf (t .loop .buf)) (t .loop .next))
-          ∙ ap (λ (n : ℕ). put (bitsOf (t .loop .buf)) (t .loop .next) (groups n w)) (sym z)
-          ∙ t .loop .inv .4
-          ∙ ap₂ (λ (k n : ℕ). put (bitsOf (s .args .buf .now)) k (groups n w)) (b .bit .ensures) (b .before .groups .ensures .0);
-      told = omega (arith, length-variable-byte w, c .new .ensures, b .bit .ensures, b .before .groups .ensures .0);
-    }
+    drawn-as (ap (λ (n : ℕ). groups n (s .args .w)) (t .before .groups .ensures .0)) (begun-all (s .pre .1 .within) (t .loop .inv .2) (ap (λ (n : ℕ). groups n (s .args .w)) z))
 
 pub write-spec : {M : Type 1} → statement M
 write-spec =
@@ -98,14 +69,11 @@ write-spec =
     Inv-loop
     μ-loop
     groups-requires
-    bit-requires
     loop-holds
     sub-later
     unit-requires
     field-requires
-    add-next
     loop-less
     loop-again
-    new-requires
     same-length
     returns)
