@@ -5,8 +5,8 @@ help:
 	@echo 'make check    rt check: prove what has changed and run the programs; not the verdict'
 	@echo 'make fmt      rt fmt: put every source file into the layout of the toolchain'
 	@echo 'make library  the C boundary: target/library gets libmoortangle.a and its header'
-	@echo 'make compare  run the library against the second program, tests/second'
-	@echo 'make bench    time the library beside a plain Rust writer, tests/bench, as ratios'
+	@echo 'make compare  run the writers and readers against the second program, tests/second'
+	@echo 'make bench    time the library beside a plain Rust writer and readers, tests/bench, as ratios'
 
 test:
 	@.ci/run

@@ -47,6 +47,82 @@ moortangle_written moortangle_write_corrections(uint8_t *buffer, size_t bytes, u
 /* Ends a stream: writes four zeros from bit `start` on, and zeros to the end of the byte that the fourth is in. */
 moortangle_written moortangle_write_end(uint8_t *buffer, size_t bytes, uint64_t start);
 
+/*
+ * What a reader answers:
+ *    0  done
+ *    5  the count is above the lent list's length
+ *    6  cut short: the stop comes before the end of a field
+ *    7  an asked kind that is not this function's; a code over 5; kind 3, a kind that is not the asked one, or code 5 without
+ *       kind 1; in look-up and search also an end mark
+ *    8  a count over 4,096
+ *    9  bits that no word begins with, or an offset that the interpolative code does not have
+ *   10  an instant above 4,294,967,294, or the word 1 among corrections
+ *   11  a stream whose padding is not zero, or that has a byte after it
+ *   12  a buffer of more than 65,536 bytes, or not start <= stop <= 8 times its bytes
+ *   13  a place that is not below the count
+ * Where several hold: 12, then an asked kind that is not this function's, then what is wrong with the first field that fails
+ * (8 before 5, 9 before 10), then 13.
+ * told: 5 to 10, the bit where the failing field starts, but 0 for an asked kind that is not this function's; 11, the bit after
+ * the end mark's four zeros; else 0. On a refusal every other field is 0, and a lent list is as it was.
+ * No reader uses a bit before `start` or from `stop` on, nor changes the buffer.
+ */
+
+/* told: success, the bit after the record or after the end mark's four zeros */
+typedef struct {
+    uint32_t answer;
+    uint64_t told;
+    uint32_t end; /* 1 for an end mark, which has no heading, else 0 */
+    uint32_t code, kind, parameter, count;
+} moortangle_record;
+
+/* told: 0 on success, here and below */
+typedef struct {
+    uint32_t answer;
+    uint64_t told;
+    uint32_t value;
+} moortangle_value;
+
+typedef struct {
+    uint32_t answer;
+    uint64_t told;
+    int32_t value;
+} moortangle_correction;
+
+typedef struct {
+    uint32_t answer;
+    uint64_t told;
+    uint64_t below;
+} moortangle_place;
+
+typedef struct {
+    uint32_t answer;
+    uint64_t told;
+    uint64_t records, values;
+} moortangle_stream;
+
+/* Reads a record of the asked kind, 0 or 1, into the first `count` places of the list and leaves the others; or an end mark. */
+moortangle_record moortangle_read(const uint8_t *buffer, size_t bytes, uint64_t start, uint64_t stop, uint32_t kind,
+                                  uint32_t *list, size_t room);
+
+/* As moortangle_read, for corrections: kind 2. */
+moortangle_record moortangle_read_corrections(const uint8_t *buffer, size_t bytes, uint64_t start, uint64_t stop,
+                                              uint32_t kind, int32_t *list, size_t room);
+
+/* The value at a place, from 0, of a record of the asked kind, 0 or 1: what moortangle_read would put there. */
+moortangle_value moortangle_look_up(const uint8_t *buffer, size_t bytes, uint64_t start, uint64_t stop, uint32_t kind,
+                                    uint64_t place);
+
+/* As moortangle_look_up, for corrections: kind 2. */
+moortangle_correction moortangle_look_up_correction(const uint8_t *buffer, size_t bytes, uint64_t start, uint64_t stop,
+                                                    uint32_t kind, uint64_t place);
+
+/* How many instants of a record of kind 1 are below the one sought. */
+moortangle_place moortangle_search(const uint8_t *buffer, size_t bytes, uint64_t start, uint64_t stop, uint32_t instant);
+
+/* Whether a whole buffer is a stream: records of any kind, an end mark, and zeros to the byte's end; and how many records and
+ * values it has. */
+moortangle_stream moortangle_check(const uint8_t *buffer, size_t bytes);
+
 #ifdef __cplusplus
 }
 #endif

@@ -4,6 +4,9 @@ use bits::Cursor;
 use bits::Pen;
 use read_words::Read;
 
+mod checked;
+mod found;
+mod readings;
 mod say;
 mod written;
 
@@ -194,4 +197,20 @@ fn main() {
     written::streams();
     written::limits();
     written::corrections();
+    checked::streams();
+    checked::too_long();
+    readings::worked();
+    readings::unknown();
+    readings::positions();
+    readings::cut();
+    readings::words();
+    readings::count();
+    readings::values();
+    readings::lent();
+    readings::written();
+    readings::signed();
+    found::places();
+    found::corrections();
+    found::sought();
+    checked::many_values();
 }

@@ -1,28 +1,14 @@
 // Records and streams, written over ones.
 use crate::say;
 use bits::BitPos;
-use moortangle::Wrote;
-
-fn answer(name: &[u8], r: Wrote) {
-    say::text(name);
-    match r {
-        Wrote::Done(next) => say::number(b"done, up to bit ", next.bit() as u64),
-        Wrote::TooMany => say::text(b"1\n"),
-        Wrote::OutOfRange(i) => say::number(b"2 at place ", i as u64),
-        Wrote::Falls(i) => say::number(b"3 at place ", i as u64),
-        Wrote::Unknown => say::text(b"4\n"),
-        Wrote::Full => say::text(b"5\n"),
-        Wrote::Outside => say::text(b"12\n"),
-    }
-}
 
 // One record, and the end mark where it ends.
 fn stream(name: &[u8], code: u32, kind: u32, values: &[u32], next: usize, buf: &mut [u8]) {
-    answer(
+    say::wrote(
         name,
         moortangle::record::write(buf, BitPos::new(0), code, 0, kind, values),
     );
-    answer(b"end: ", moortangle::end::write_end(buf, BitPos::new(next)));
+    say::wrote(b"end: ", moortangle::end::write_end(buf, BitPos::new(next)));
     say::bytes(b"bytes:", buf);
 }
 
@@ -48,7 +34,7 @@ pub(crate) fn streams() {
         &mut again,
     );
     let mut one = [255u8; 1];
-    answer(
+    say::wrote(
         b"no records, end: ",
         moortangle::end::write_end(&mut one, BitPos::new(0)),
     );
@@ -61,39 +47,39 @@ pub(crate) fn streams() {
 pub(crate) fn limits() {
     let mut buf = [0u8; 1024];
     let list = [0u32; 4097];
-    answer(
+    say::wrote(
         b"4096 instants: ",
         moortangle::record::write(&mut buf, BitPos::new(0), 1, 0, 1, &list[0..4096]),
     );
-    answer(
+    say::wrote(
         b"4097 instants: ",
         moortangle::record::write(&mut buf, BitPos::new(0), 1, 0, 1, &list),
     );
-    answer(
+    say::wrote(
         b"instant 4294967294: ",
         moortangle::record::write(&mut buf, BitPos::new(0), 1, 0, 1, &[4294967294]),
     );
-    answer(
+    say::wrote(
         b"instant 4294967295: ",
         moortangle::record::write(&mut buf, BitPos::new(0), 1, 0, 1, &[4294967295]),
     );
-    answer(
+    say::wrote(
         b"instants 5, 4: ",
         moortangle::record::write(&mut buf, BitPos::new(0), 1, 0, 1, &[5, 4]),
     );
-    answer(
+    say::wrote(
         b"gamma with k = 200: ",
         moortangle::record::write(&mut buf, BitPos::new(0), 1, 200, 1, &[5]),
     );
-    answer(
+    say::wrote(
         b"correction 0: ",
         moortangle::record::write_corrections(&mut buf, BitPos::new(0), 1, 0, 2, &[3, 0]),
     );
-    answer(
+    say::wrote(
         b"correction -2147483648: ",
         moortangle::record::write_corrections(&mut buf, BitPos::new(0), 1, 0, 2, &[-2147483648]),
     );
-    answer(
+    say::wrote(
         b"both ends of the corrections: ",
         moortangle::record::write_corrections(
             &mut buf,
@@ -109,7 +95,7 @@ pub(crate) fn limits() {
 // -1 is the word 3, 011 after the heading 0001 10 010.
 pub(crate) fn corrections() {
     let mut buf = [255u8; 2];
-    answer(
+    say::wrote(
         b"correction -1, gamma: ",
         moortangle::record::write_corrections(&mut buf, BitPos::new(0), 1, 0, 2, &[-1]),
     );

@@ -4,7 +4,7 @@ use mathlib.Core.Bool.{Bool, true, false}
 use Prim.Native.Nat.{ℕ, _≤_}
 use Rattle.format.specs.Limits.{largestParameter}
 use Rattle.format.specs.Kinds as Kinds
-use Rattle.format.specs.Kinds.{Family, Unsigned, Signed}
+use Rattle.format.specs.Kinds.{Family, Unsigned, Signed, kindNumber}
 use Rattle.format.specs.Records as Records
 use Rattle.format.specs.Records.{codeNumber}
 use Rattle.format.specs.Answers.{Told}
@@ -68,6 +68,11 @@ pub data ToldCode (code parameter : ℕ) : CodeChoice → Type 0 where
 pub data ToldKind (f : Family) (kind : ℕ) : KindChoice → Type 0 where
   is : {t : Kind} → Told f kind (kindOf t) → ToldKind f kind (OfKind.Is t)
   unknown : ((t : Kinds.Kind) → Told f kind t → ⊥) → ToldKind f kind OfKind.Unknown
+
+-- the kind that a number means, in whichever family; or that it means none: "kind 3"
+pub data ToldNumber (number : ℕ) : KindChoice → Type 0 where
+  is : {t : Kind} → kindNumber (kindOf t) ≡ number → ToldNumber number (OfKind.Is t)
+  unknown : ((t : Kinds.Kind) → kindNumber t ≡ number → ⊥) → ToldNumber number OfKind.Unknown
 
 -- the heading that a caller chooses, or that there is none: "4"
 pub record HeadingIs (f : Family) (code parameter kind : ℕ) (h : Heading) : Type 0 where

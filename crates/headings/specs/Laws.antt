@@ -1,2 +1,4 @@
 -- What follows from the definitions. Nothing here has to be believed: it is proved.
 pub mod Choices
+pub mod Same
+pub mod Bodies

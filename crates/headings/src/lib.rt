@@ -3,7 +3,9 @@ ghost use mathlib.Core.Path.{_≡_};
 ghost use Prim.Native.Nat.{_≤_};
 ghost use Rattle.format.specs.Kinds.{kindNumber};
 ghost use Rattle.format.specs.Records.{codeNumber};
-ghost use Rattle.headings.specs.Headings.{codeOf, carried, carriedWidth, kindOf, familyIf, ToldCode, ToldKind, Chooses};
+ghost use Rattle.headings.specs.Headings.{codeOf, carried, carriedWidth, kindOf, familyIf, ToldCode, ToldKind, ToldNumber, Chooses};
+
+pub mod bodies;
 
 pub enum Code {
     Gamma,
@@ -30,7 +32,7 @@ pub enum CodeChoice {
     Unknown,
 }
 
-// The kind of a number, in one of the two families.
+// The kind of a number.
 pub enum KindChoice {
     Is(Kind),
     Unknown,
@@ -42,7 +44,7 @@ pub enum Choice {
     Unknown,
 }
 
-fn code_of(code: u32, parameter: u32) -> CodeChoice
+pub fn code_of(code: u32, parameter: u32) -> CodeChoice
     ensures { λ r. ⌜ ToldCode code parameter r ⌝ }
 {
     if code == 1 {
@@ -66,7 +68,8 @@ fn code_of(code: u32, parameter: u32) -> CodeChoice
     CodeChoice::Unknown
 }
 
-fn kind_of(signed: bool, kind: u32) -> KindChoice
+// The kind of a number that is one of the family's.
+pub fn kind_of(signed: bool, kind: u32) -> KindChoice
     ensures { λ r. ⌜ ToldKind (familyIf signed) kind r ⌝ }
 {
     if signed {
@@ -80,6 +83,22 @@ fn kind_of(signed: bool, kind: u32) -> KindChoice
     }
     if kind == 1 {
         return KindChoice::Is(Kind::Instants);
+    }
+    KindChoice::Unknown
+}
+
+// The kind of a number, in whichever family.
+pub fn kind_numbered(number: u32) -> KindChoice
+    ensures { λ r. ⌜ ToldNumber number r ⌝ }
+{
+    if number == 0 {
+        return KindChoice::Is(Kind::Plain);
+    }
+    if number == 1 {
+        return KindChoice::Is(Kind::Instants);
+    }
+    if number == 2 {
+        return KindChoice::Is(Kind::Corrections);
     }
     KindChoice::Unknown
 }

@@ -2,3 +2,8 @@
 pub mod Wrote
 pub mod End
 pub mod Record
+pub mod Readers
+pub mod Unique
+pub mod AsTheList
+pub mod Agree
+pub mod RoundTrip

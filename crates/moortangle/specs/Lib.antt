@@ -1,2 +1,4 @@
+pub mod Places
+pub mod Reads
 pub mod Wrote
 pub mod Laws

@@ -2,7 +2,10 @@
 use bits::BitPos;
 
 pub mod end;
+pub mod find;
+mod place;
 pub mod record;
+pub mod stream;
 
 // What a writer answers, with what it tells: document 01's 0, 1, 2, 3, 4, 5 and 12.
 pub enum Wrote {

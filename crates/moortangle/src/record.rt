@@ -1,13 +1,19 @@
-// A record, or nothing.
+// A record: written or not, read or refused.
 ghost use mathlib.Core.List.{map};
 ghost use lib.IntN.{pos};
 ghost use Rattle.format.specs.Kinds.{Unsigned, Signed};
 ghost use Rattle.format.specs.Writing.{Writes};
+ghost use Rattle.moortangle.specs.Reads.{ReadsInto};
 ghost use Rattle.moortangle.specs.Wrote.{outcomeOf};
 use crate::Wrote;
+use crate::place;
+use crate::place::Placed;
 use bits::BitPos;
 use headings::Choice;
+use headings::KindChoice;
 use lists::Judged;
+use read_records::Read;
+use reading::Refusal;
 use write_records::Put;
 
 // A list of plain values or of instants.
@@ -33,7 +39,7 @@ pub fn write(
                 return Wrote::TooMany;
             }
             let chosen = h.kind;
-            match lists::unsigned::judge(write_records::is_instants(chosen), values) {
+            match lists::unsigned::judge(headings::bodies::is_instants(chosen), values) {
                 Judged::Fine => match write_records::unsigned::put(buf, start, h, values) {
                     Put::Done(next) => Wrote::Done(next),
                     Put::Full => Wrote::Full,
@@ -78,5 +84,31 @@ pub fn write_corrections(
             }
         }
         Choice::Unknown => Wrote::Unknown,
+    }
+}
+
+// A record of plain values or of instants into the front of a lent list, or an end mark.
+pub fn read(s: &[u8], start: BitPos, stop: BitPos, kind: u32, list: &mut [u32]) -> Read
+    ensures { λ r. ⌜ ReadsInto (now (s .entry)) (start .0) (stop .0) Unsigned kind (map pos (now (list .entry))) r (map pos (now (list .exit))) ⌝ }
+{
+    match place::span(s, start, stop) {
+        Placed::At(c) => match headings::kind_of(false, kind) {
+            KindChoice::Is(t) => read_records::unsigned::read(c, s, t, list),
+            KindChoice::Unknown => Read::Refused(Refusal::Unknown, BitPos::new(0)),
+        },
+        Placed::Outside => Read::Refused(Refusal::Outside, BitPos::new(0)),
+    }
+}
+
+// A record of corrections, or an end mark.
+pub fn read_corrections(s: &[u8], start: BitPos, stop: BitPos, kind: u32, list: &mut [i32]) -> Read
+    ensures { λ r. ⌜ ReadsInto (now (s .entry)) (start .0) (stop .0) Signed kind (now (list .entry)) r (now (list .exit)) ⌝ }
+{
+    match place::span(s, start, stop) {
+        Placed::At(c) => match headings::kind_of(true, kind) {
+            KindChoice::Is(_) => read_records::signed::read(c, s, list),
+            KindChoice::Unknown => Read::Refused(Refusal::Unknown, BitPos::new(0)),
+        },
+        Placed::Outside => Read::Refused(Refusal::Outside, BitPos::new(0)),
     }
 }

@@ -5,3 +5,4 @@ pub mod Ranges
 pub mod Readers
 pub mod VariableByte
 pub mod Same
+pub mod Glimpsed

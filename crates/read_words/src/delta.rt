@@ -1,6 +1,5 @@
 // Delta: gamma of the length of B(w), then the whole of B(w).
-ghost use mathlib.Core.Path.{_≡_};
-ghost use Prim.Native.Nat.{_-_, _^_, _≤_, _<_};
+ghost use Prim.Native.Nat.{_-_};
 ghost use lib.ListN.{length};
 ghost use Rattle.format.specs.Codes.{Word, delta};
 ghost use Rattle.bits.specs.Cursor.{Within};

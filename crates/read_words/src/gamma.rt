@@ -1,6 +1,6 @@
 // Gamma: as many zeros as B(w) has bits after its first, then B(w).
 ghost use mathlib.Core.Path.{_≡_};
-ghost use Prim.Native.Nat.{_-_, _^_, _≤_, _<_, min};
+ghost use Prim.Native.Nat.{_-_, _≤_, _<_, min};
 ghost use lib.ListN.{length};
 ghost use Rattle.format.specs.Codes.{Word, gamma};
 ghost use Rattle.format.specs.Laws.Digits.{Held};

@@ -1,6 +1,5 @@
 // The two parts that words are made of: zeros and a one, and a field that holds the numbers from one to another.
-ghost use mathlib.Core.Path.{_≡_};
-ghost use Prim.Native.Nat.{_+_, _-_, _/_, _^_, _≤_, _<_};
+ghost use Prim.Native.Nat.{_+_, _-_, _^_, _≤_, _<_};
 ghost use lib.ListN.{length};
 ghost use Rattle.bits.specs.Cursor.{Within};
 ghost use Rattle.layout.specs.Bits.{inBits};

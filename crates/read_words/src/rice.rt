@@ -1,6 +1,6 @@
 // Rice: the quotient of w - 1 by 2^k in zeros, a one, and the remainder in k bits.
 ghost use mathlib.Core.Path.{_≡_};
-ghost use Prim.Native.Nat.{_+_, _-_, _*_, _/_, _^_, _≤_, _<_, min};
+ghost use Prim.Native.Nat.{_+_, _-_, _*_, _/_, _≤_, _<_, min};
 ghost use lib.ListN.{length};
 ghost use Rattle.format.specs.Codes.{Word, rice};
 ghost use Rattle.bits.specs.Cursor.{Within};

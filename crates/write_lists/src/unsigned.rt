@@ -7,10 +7,10 @@ ghost use lib.ListN.{length};
 ghost use Rattle.format.specs.Kinds.{ListOf};
 ghost use Rattle.lists.specs.Judged.{unsignedKind};
 ghost use Rattle.bits.specs.Pen.{Room, Drawn};
-ghost use Rattle.write_words.specs.Words.{imageBy, Known};
+ghost use Rattle.headings.specs.Bodies.{imageBy, Known};
 ghost use Rattle.write_lists.specs.Images.{images};
 use bits::Pen;
-use write_words::Words;
+use headings::bodies::Words;
 use write_words::by_code;
 
 pub fn count(code: Words, instants: bool, values: &[u32]) -> u64

@@ -9,19 +9,19 @@ ghost use Rattle.write_records.specs.Written.{Written};
 ghost use Rattle.write_records.specs.Images.{recordImage, bodyImage};
 ghost use Rattle.write_records.specs.Bodies.{SignedRecord};
 ghost use Rattle.write_records.specs.Put.{putOutcome};
-use crate::Body;
 use crate::Put;
 use crate::heading;
 use bits::BitPos;
 use bits::Pen;
 use headings::Heading;
+use headings::bodies::Body;
 
 fn count_body(h: Heading, values: &[i32]) -> u64
     requires { ⌜ SignedRecord h (now values) ⌝ }
     ensures { λ r. ⌜ (r ≡ length (bodyImage h (now (values .entry)))) × (r ≤ 17592186167296) ⌝ }
 {
     let code = h.code;
-    match crate::body_of(code) {
+    match headings::bodies::body_of(code) {
         Body::ByWords(words) => write_lists::signed::count(words, values),
         Body::ByHalves => 0,
     }
@@ -33,7 +33,7 @@ fn write_body(buf: &mut [u8], pen: Pen, h: Heading, values: &[i32]) -> Pen
     ensures { λ r. ⌜ Drawn (bodyImage h (now (values .entry))) (now (buf .entry)) pen (now (buf .exit)) r ⌝ }
 {
     let code = h.code;
-    match crate::body_of(code) {
+    match headings::bodies::body_of(code) {
         Body::ByWords(words) => write_lists::signed::write(buf, pen, words, values),
         Body::ByHalves => pen,
     }

@@ -11,12 +11,12 @@ ghost use Rattle.write_records.specs.Written.{Written};
 ghost use Rattle.write_records.specs.Images.{recordImage, bodyImage};
 ghost use Rattle.write_records.specs.Bodies.{UnsignedRecord};
 ghost use Rattle.write_records.specs.Put.{putOutcome};
-use crate::Body;
 use crate::Put;
 use crate::heading;
 use bits::BitPos;
 use bits::Pen;
 use headings::Heading;
+use headings::bodies::Body;
 
 fn count_body(h: Heading, values: &[u32]) -> u64
     requires { ⌜ UnsignedRecord h (now values) ⌝ }
@@ -24,8 +24,8 @@ fn count_body(h: Heading, values: &[u32]) -> u64
 {
     let code = h.code;
     let kind = h.kind;
-    let instants = crate::is_instants(kind);
-    match crate::body_of(code) {
+    let instants = headings::bodies::is_instants(kind);
+    match headings::bodies::body_of(code) {
         Body::ByWords(words) => write_lists::unsigned::count(words, instants, values),
         Body::ByHalves => write_interpolative::count(values),
     }
@@ -38,8 +38,8 @@ fn write_body(buf: &mut [u8], pen: Pen, h: Heading, values: &[u32]) -> Pen
 {
     let code = h.code;
     let kind = h.kind;
-    let instants = crate::is_instants(kind);
-    match crate::body_of(code) {
+    let instants = headings::bodies::is_instants(kind);
+    match headings::bodies::body_of(code) {
         Body::ByWords(words) => write_lists::unsigned::write(buf, pen, words, instants, values),
         Body::ByHalves => write_interpolative::write(buf, pen, values),
     }

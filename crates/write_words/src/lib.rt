@@ -4,11 +4,3 @@ pub mod delta;
 pub mod gamma;
 pub mod rice;
 pub mod variable_byte;
-
-// The codes that write a list word by word.
-pub enum Words {
-    Gamma,
-    Delta,
-    Rice(usize),
-    VariableByte,
-}

@@ -1,53 +1,90 @@
-//! Times the static library's writer beside the plain one on the same records, and prints how the times compare.
+//! Times the static library beside the plain writer and readers on the same records, and prints how the times compare.
 
 #[cfg(not(library_given))]
 compile_error!("set MOORTANGLE_LIB_DIR to the folder that holds libmoortangle.a; only the measurement needs it");
 
 mod agreement;
 mod boundary;
+mod timing;
 
 use bench::lists;
-use bench::plain::{self, Written, MOST_BYTES, MOST_VALUES};
-use std::hint::black_box;
+use bench::plain::{self, MOST_BYTES, MOST_VALUES};
 use std::process::exit;
-use std::time::{Duration, Instant};
+use timing::{checking, looking_up, reading, searching, shortest, writing, Subject};
 
-/// Several lists, so that no writer is timed on branches that the processor has learnt by heart.
+/// Several lists, so that nothing is timed on branches that the processor has learnt by heart.
 const LISTS: u64 = 16;
-const TIME_FOR_A_CODE: Duration = Duration::from_millis(1_200);
 const RICE: u32 = 3;
 const INSTANTS: u32 = 1;
-
-type Writer = fn(&mut [u8], u64, [u32; 3], &[u32]) -> Written;
-
-const WRITERS: [Writer; 2] = [boundary::write, plain::write];
 
 fn main() {
     let lists: Vec<Vec<u32>> = (1..=LISTS).map(|seed| lists::instants(seed, MOST_VALUES)).collect();
     let k = best_k(&lists);
     let rice = format!("Rice, k = {k}");
     let codes = [(1, "gamma"), (2, "delta"), (RICE, &rice), (4, "variable-byte"), (5, "interpolative")];
-    let headings = codes.map(|(code, _)| [code, if code == RICE { k } else { 0 }, INSTANTS]);
-    if let Err(difference) = check(&headings, &lists) {
+    let codes = codes.map(|(code, name)| (name, [code, if code == RICE { k } else { 0 }, INSTANTS]));
+    if let Err(difference) = agreement::check(&codes.map(|(_, heading)| heading), &lists) {
         eprintln!("{difference}");
         exit(1);
     }
-    println!("{:<14} {:>14} {:>16}", "code", "bits per value", "library / plain");
-    let mut worst: f64 = 0.0;
-    for ((_, name), heading) in codes.into_iter().zip(headings) {
-        let ratio = ratio(heading, &lists);
-        worst = worst.max(ratio);
-        println!("{name:<14} {:>14.2} {ratio:>16.2}", bits_per_value(heading, &lists));
-    }
-    println!("worst ratio {worst:.2}");
+    print_writing(&codes, &lists);
+    println!();
+    print_reading(&codes, &lists);
 }
 
-fn check(headings: &[[u32; 3]], lists: &[Vec<u32>]) -> Result<(), String> {
-    for &heading in headings {
-        agreement::on_refusals(heading, &lists[0])?;
-        lists.iter().try_for_each(|list| agreement::on_record(heading, list))?;
+fn print_writing(codes: &[(&str, [u32; 3])], lists: &[Vec<u32>]) {
+    print_row("writing", ["bits per value", "library / plain"].map(str::to_owned));
+    let mut worst: f64 = 0.0;
+    for &(name, heading) in codes {
+        let [library, plain] = writing_times(&subjects(heading, lists));
+        worst = worst.max(library / plain);
+        print_row(name, [bits_per_value(heading, lists), library / plain].map(two_digits));
     }
-    Ok(())
+    println!("worst write ratio {worst:.2}");
+}
+
+/// The stream check does a reader's judging and keeps nothing, so look-up and search are held against it.
+fn print_reading(codes: &[(&str, [u32; 3])], lists: &[Vec<u32>]) {
+    print_row("reading", ["library / plain", "check / plain", "look-up / check", "search / check"].map(str::to_owned));
+    let mut worst: f64 = 0.0;
+    for &(name, heading) in codes {
+        let [read, plain_read, check, plain_check, look_up, search] = reading_times(&subjects(heading, lists));
+        worst = worst.max(read / plain_read);
+        print_row(name, [read / plain_read, check / plain_check, look_up / check, search / check].map(two_digits));
+    }
+    println!("worst read ratio {worst:.2}");
+}
+
+fn print_row<const N: usize>(name: &str, cells: [String; N]) {
+    println!("{name:<14} {}", cells.map(|cell| format!("{cell:>16}")).join(" "));
+}
+
+fn two_digits(number: f64) -> String {
+    format!("{number:.2}")
+}
+
+fn writing_times(subjects: &[Subject]) -> [f64; 2] {
+    shortest([&writing(boundary::write), &writing(plain::write)], subjects)
+}
+
+/// Library and plain reader, library and plain check, the library's look-up and its search.
+fn reading_times(subjects: &[Subject]) -> [f64; 6] {
+    shortest(
+        [
+            &reading(boundary::read),
+            &reading(plain::read),
+            &checking(boundary::check),
+            &checking(plain::check),
+            &looking_up(boundary::look_up),
+            &searching(boundary::search),
+        ],
+        subjects,
+    )
+}
+
+/// The lists as subjects, written at every start within a byte.
+fn subjects(heading: [u32; 3], lists: &[Vec<u32>]) -> Vec<Subject> {
+    lists.iter().zip(0..).map(|(list, at)| Subject::new(heading, list, at % 8)).collect()
 }
 
 /// The parameter that gives the fewest bits over all lists, as a caller of Rice would choose it.
@@ -66,35 +103,5 @@ fn bits_per_value(heading: [u32; 3], lists: &[Vec<u32>]) -> f64 {
 /// The bits of all records, each with its heading, or nothing if one does not fit a buffer.
 fn total_bits(heading: [u32; 3], lists: &[Vec<u32>]) -> Option<u64> {
     let mut buffer = vec![0; MOST_BYTES];
-    let records = lists.iter().map(|list| plain::write(&mut buffer, 0, heading, list));
-    records.map(|written| (written.answer == 0).then_some(written.told)).sum()
-}
-
-/// The library's time over the plain writer's, each the sum of the shortest times seen for every list.
-///
-/// A disturbance can only make a call longer, so the shortest of many calls is what repeats on a shared machine.
-fn ratio(heading: [u32; 3], lists: &[Vec<u32>]) -> f64 {
-    let mut buffer = vec![0; MOST_BYTES];
-    let mut shortest = vec![[Duration::MAX; WRITERS.len()]; lists.len()];
-    let begin = Instant::now();
-    let mut round = 0;
-    while begin.elapsed() < TIME_FOR_A_CODE {
-        for (at, list) in lists.iter().enumerate() {
-            let start = at as u64 % 8;
-            // The second to write a list finds it in the cache, so the writers take turns at being second.
-            for writer in [round % 2, (round + 1) % 2] {
-                let time = time(WRITERS[writer], &mut buffer, start, heading, list);
-                shortest[at][writer] = shortest[at][writer].min(time);
-            }
-        }
-        round += 1;
-    }
-    let [library, plain] = [0, 1].map(|writer| shortest.iter().map(|times| times[writer]).sum::<Duration>());
-    library.as_secs_f64() / plain.as_secs_f64()
-}
-
-fn time(writer: Writer, buffer: &mut [u8], start: u64, heading: [u32; 3], list: &[u32]) -> Duration {
-    let begin = Instant::now();
-    black_box(writer(black_box(&mut *buffer), black_box(start), black_box(heading), black_box(list)));
-    begin.elapsed()
+    lists.iter().map(|list| plain::write(&mut buffer, 0, heading, list).ok()).sum()
 }

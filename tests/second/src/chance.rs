@@ -1,6 +1,7 @@
 //! Random cases, weighted so that successes, near misses and each refusal are all frequent.
 
 use crate::case::{Call, Case};
+use crate::lists;
 use crate::rooms::{background, length, rooms, MOST_BYTES};
 use second::naive::heading::Entry;
 use second::naive::writer::Request;
@@ -48,14 +49,7 @@ fn parameter(random: &mut Random, code: u32) -> u32 {
 
 fn values(random: &mut Random, kind: u32, code: u32, parameter: u32) -> Vec<i64> {
     let count = count(random);
-    let most_bits = match code {
-        3 => (u64::from(parameter) + random.between(0, 6)).min(32),
-        _ => random.between(1, 32),
-    };
-    let mut values: Vec<i64> = (0..count).map(|_| value(random, kind, most_bits)).collect();
-    if kind == 1 {
-        make_instants(random, &mut values);
-    }
+    let mut values = lists::values(random, kind, code, parameter, count);
     while !values.is_empty() && random.once_in(6) {
         plant_fault(random, kind, &mut values);
     }
@@ -69,32 +63,6 @@ fn count(random: &mut Random) -> u64 {
         3 => random.between(300, 4_095),
         4..=20 => random.between(30, 300),
         _ => random.between(0, 12),
-    }
-}
-
-/// A value of this kind; for instants a gap.
-fn value(random: &mut Random, kind: u32, most_bits: u64) -> i64 {
-    let at_the_end = most_bits == 32 && random.once_in(16);
-    let size = if at_the_end { 4_294_967_295 } else { random.of_bits(most_bits) as i64 };
-    match kind {
-        0 => size.max(1),
-        1 => size,
-        _ => {
-            let size = (size / 2).max(1);
-            random.one_of(&[size, -size])
-        }
-    }
-}
-
-/// Adds up the gaps, where a sum too large becomes the largest instant.
-fn make_instants(random: &mut Random, gaps: &mut [i64]) {
-    let stay = random.between(2, 9);
-    let mut instant = 0;
-    for gap in gaps {
-        if !random.once_in(stay) {
-            instant = (instant + *gap).min(4_294_967_294);
-        }
-        *gap = instant;
     }
 }
 

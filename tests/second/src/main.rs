@@ -1,4 +1,4 @@
-//! Compares the static library's writers with the naive ones: `compare [seed [number of random cases]]`.
+//! Compares the static library's writers and readers with the naive ones: `compare [seed [number of random cases]]`.
 
 #[cfg(not(library_given))]
 compile_error!("set MOORTANGLE_LIB_DIR to the folder that holds libmoortangle.a; only the comparison needs it");
@@ -7,37 +7,61 @@ mod boundary;
 mod case;
 mod chance;
 mod exported;
+mod exported_readers;
 mod guarded;
+mod lists;
+mod reading;
 mod report;
 mod rooms;
+mod shown;
 mod systematic;
 mod tally;
 
 use case::Case;
 use guarded::Lending;
+use reading::Comparison;
 use second::random::Random;
 use std::process::exit;
 use tally::Tally;
 
 const SEED: u64 = 1;
-const RANDOM_CASES: u64 = 200_000;
+const RANDOM_WRITINGS: u64 = 200_000;
+const RANDOM_READINGS: u64 = 1_500_000;
 
 fn main() {
     let (seed, random_cases) = arguments();
     let mut random = Random::seeded(seed);
+    let written = writers(&mut random, seed, random_cases.unwrap_or(RANDOM_WRITINGS));
+    let read = readers(&mut random, seed, random_cases.unwrap_or(RANDOM_READINGS));
+    println!("{written} cases of writing and {read} of reading compared, seed {seed}");
+}
+
+/// The number of cases, where all agreed and nothing was left out.
+fn writers(random: &mut Random, seed: u64, random_cases: u64) -> u64 {
     let mut tally = Tally::default();
-    systematic::run(&mut random, &mut |case| check(&mut tally, &case, seed));
-    let chosen = tally.cases;
+    systematic::run(random, &mut |case| check(&mut tally, &case, seed));
     for _ in 0..random_cases {
-        check(&mut tally, &chance::case(&mut random), seed);
+        check(&mut tally, &chance::case(random), seed);
     }
     println!("{}", tally.summary());
-    let missing = tally.missing();
+    nothing_left_out(&tally.missing());
+    tally.cases
+}
+
+fn readers(random: &mut Random, seed: u64, random_cases: u64) -> u64 {
+    let mut comparison = Comparison { seed, tally: reading::Tally::default() };
+    reading::systematic(random, &mut comparison);
+    reading::chance(random, &mut comparison, random_cases);
+    println!("{}", comparison.tally.summary());
+    nothing_left_out(&comparison.tally.missing());
+    comparison.tally.cases
+}
+
+fn nothing_left_out(missing: &[String]) {
     if !missing.is_empty() {
         println!("{}", missing.join("\n"));
         exit(1);
     }
-    println!("{} cases compared, {chosen} systematic and {random_cases} random, seed {seed}", tally.cases);
 }
 
 fn check(tally: &mut Tally, case: &Case, seed: u64) {
@@ -52,13 +76,14 @@ fn check(tally: &mut Tally, case: &Case, seed: u64) {
     }
 }
 
-fn arguments() -> (u64, u64) {
+/// The seed, and the number of random cases for each half if it is given.
+fn arguments() -> (u64, Option<u64>) {
     let given: Vec<String> = std::env::args().skip(1).collect();
     let numbers: Option<Vec<u64>> = given.iter().map(|text| text.parse().ok()).collect();
     match numbers.as_deref() {
-        Some([]) => (SEED, RANDOM_CASES),
-        Some([seed]) => (*seed, RANDOM_CASES),
-        Some([seed, cases]) => (*seed, *cases),
+        Some([]) => (SEED, None),
+        Some([seed]) => (*seed, None),
+        Some([seed, cases]) => (*seed, Some(*cases)),
         _ => {
             eprintln!("usage: compare [seed [number of random cases]]");
             exit(2);

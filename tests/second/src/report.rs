@@ -2,17 +2,17 @@
 
 use crate::case::{Call, Case, Difference};
 use crate::guarded::Lending;
+use crate::shown::{self, runs};
 use second::naive::heading::Entry;
 use second::naive::writer::Outcome;
-use std::fmt::Display;
 
 const MOST_SHOWN: usize = 16;
 
 pub fn report(case: &Case, lending: Lending, difference: &Difference) -> String {
     let Difference { expected, got } = difference;
     let mut lines = inputs(case, lending);
-    lines.push(format!("expected: {}", shown(expected)));
-    lines.push(format!("got:      {}", shown(&got.outcome)));
+    lines.push(format!("expected: {}", numbers(expected)));
+    lines.push(format!("got:      {}", numbers(&got.outcome)));
     lines.extend(changed_bytes(case, expected, &got.outcome));
     if !got.beside_buffer.is_empty() {
         lines.push(format!("memory beside the buffer was written at its bytes {:?}", got.beside_buffer));
@@ -43,18 +43,12 @@ fn inputs(case: &Case, lending: Lending) -> Vec<String> {
         ],
         Call::End => vec!["moortangle_write_end".to_owned()],
     };
-    let hex = case.bytes.iter().map(|byte| format!("{byte:02X}"));
-    lines.push(format!("start {}, {} bytes: {}", case.start, case.bytes.len(), runs(hex)));
-    lines.push(format!(
-        "guard {:02X}, {} elements of it in front, an empty slice is {}",
-        lending.guard,
-        lending.front,
-        if lending.null { "null" } else { "not null" }
-    ));
+    lines.push(format!("start {}, {}", case.start, shown::bytes(&case.bytes)));
+    lines.push(shown::lending(lending));
     lines
 }
 
-fn shown(outcome: &Outcome) -> String {
+fn numbers(outcome: &Outcome) -> String {
     format!("answer {}, told {}", outcome.answer, outcome.told)
 }
 
@@ -68,20 +62,4 @@ fn changed_bytes(case: &Case, expected: &Outcome, got: &Outcome) -> Vec<String> 
         ));
     }
     lines
-}
-
-/// All items in order, with repeated ones as "item x times" so that long lists stay readable.
-fn runs<T: Display + PartialEq>(items: impl Iterator<Item = T>) -> String {
-    let mut runs: Vec<(T, usize)> = Vec::new();
-    for item in items {
-        match runs.last_mut() {
-            Some((last, times)) if *last == item => *times += 1,
-            _ => runs.push((item, 1)),
-        }
-    }
-    let words = runs.iter().map(|(item, times)| match times {
-        1 => item.to_string(),
-        _ => format!("({item} x {times})"),
-    });
-    words.collect::<Vec<_>>().join(" ")
 }

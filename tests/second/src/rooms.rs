@@ -4,7 +4,7 @@ use second::naive::record;
 use second::naive::writer::Request;
 use second::random::Random;
 
-pub const MOST_BYTES: usize = 65_536;
+pub use second::naive::MOST_BYTES;
 
 /// Stands in for the length where a request is refused whatever the room.
 const ANY_LENGTH: u64 = 43;

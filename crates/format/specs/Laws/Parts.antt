@@ -11,6 +11,7 @@ use Rattle.layout.specs.Layout.{Layout, known, bind, made}
 use Rattle.layout.specs.Laws.Sound.{Sound, Injective, fixed-sound, known-sound, bind-sound, only-sound, made-sound}
 use Rattle.layout.specs.Laws.Total.{Total, Source, fixed-total, known-total, bind-total, only-total, made-total}
 use Rattle.format.specs.Limits.{largestWord}
+use Rattle.format.specs.Codes.{size}
 use Rattle.format.specs.Interpolative.{width, offset, middle, partIn, part}
 use Rattle.format.specs.Laws.Digits.{width-enough}
 
@@ -76,6 +77,12 @@ none-ok low hi xs h = subst (λ (L : Layout (List ℕ)). L .ok xs) (part-none lo
 pub part-length : (n low hi : ℕ) (xs : List ℕ) → part n low hi .ok xs → length xs ≡ n
 part-length zero low hi xs h = ap length (none-ok low hi xs h)
 part-length (suc d) low hi xs h = subst (λ (L : Layout (List ℕ)). L .ok xs) (part-step d low hi) h .0
+
+-- ---- how wide an offset is
+
+pub width-size : (possible : ℕ) → size (possible - 1) ≡ width possible
+unfolding size width
+width-size possible = refl
 
 -- ---- no list's bits are the beginning of another's
 
@@ -204,7 +211,8 @@ offset-total base v = only-total 9 (fixed-total (width v)) (λ a h. judged a (de
     judged a (yes p) = yes (base + a, (omega arith, omega arith), omega arith)
     judged a (no p) = no (λ (s, g, e). p (omega arith))
 
-middle-join : (i s : ℕ) (ls rs : List ℕ) → length ls ≡ i → middle i (ls ++ s ∷ rs) ≡ (s, (ls, rs))
+-- a list put together again of its middle and its halves
+pub middle-join : (i s : ℕ) (ls rs : List ℕ) → length ls ≡ i → middle i (ls ++ s ∷ rs) ≡ (s, (ls, rs))
 middle-join i s ls rs e =
     let f : drop (suc i) (ls ++ s ∷ rs) ≡ rs = ap (drop (suc i)) (sym (append-assoc ls (s ∷ []) rs)) ∙ drop-at (ls ++ s ∷ []) rs (suc i) (length-append ls (s ∷ []) ∙ omega arith) in
     ap₂ (λ (a : ℕ) (p : List ℕ × List ℕ). (a, p)) (getD-at ls s rs 0 i e) (ap₂ (λ (a b : List ℕ). (a, b)) (take-at ls (s ∷ rs) i e) f)

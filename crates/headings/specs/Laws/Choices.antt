@@ -20,7 +20,7 @@ use Rattle.headings.specs.declared.KindChoice.{KindChoice}
 use Rattle.headings.specs.declared.KindChoice.the-variants as OfKind
 use Rattle.headings.specs.declared.Choice.the-variants as OfHeading
 use Rattle.headings.specs.Headings as Headings
-use Rattle.headings.specs.Headings.{codeOf, kindOf, familyIf, ToldCode, ToldKind, Chooses}
+use Rattle.headings.specs.Headings.{codeOf, kindOf, familyIf, ToldCode, ToldKind, ToldNumber, Chooses}
 
 -- ---- the code
 
@@ -91,6 +91,26 @@ not-unsigned signed kind e a b = of-family (ap familyIf (sym e)) (Headings.unkno
     go Kinds.Plain h = a (sym (h .number))
     go Kinds.Instants h = b (sym (h .number))
     go Kinds.Corrections h = absurd (let z : _≡_ {A = ℕ} 0 1 = cc (h .family) in omega arith)
+
+-- ---- the kind of a number, in whichever family
+
+pub plain-numbered : (number : ℕ) → number ≡ 0 → ToldNumber number (OfKind.Is Plain)
+plain-numbered number e = Headings.is {t = Plain} (sym e)
+
+pub instants-numbered : (number : ℕ) → number ≡ 1 → ToldNumber number (OfKind.Is Instants)
+instants-numbered number e = Headings.is {t = Instants} (sym e)
+
+pub corrections-numbered : (number : ℕ) → number ≡ 2 → ToldNumber number (OfKind.Is Corrections)
+corrections-numbered number e = Headings.is {t = Corrections} (sym e)
+
+-- "kind 3"
+pub none-numbered : (number : ℕ) → (number ≡ 0 → ⊥) → (number ≡ 1 → ⊥) → (number ≡ 2 → ⊥) → ToldNumber number OfKind.Unknown
+none-numbered number a b d = Headings.unknown go
+  where
+    go : (t : Kinds.Kind) → kindNumber t ≡ number → ⊥
+    go Kinds.Plain n = a (sym n)
+    go Kinds.Instants n = b (sym n)
+    go Kinds.Corrections n = d (sym n)
 
 -- ---- the heading
 

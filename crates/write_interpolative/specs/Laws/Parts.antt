@@ -9,17 +9,12 @@ use lib.Seq.{take-nil, take-take, drop-drop, getD-take, getD-drop}
 use Rattle.layout.specs.Bits.{inBits}
 use Rattle.layout.specs.Layout.{Layout, bind}
 use Rattle.layout.specs.Laws.Bits.{length-inBits}
-use Rattle.format.specs.Codes.{size}
 use Rattle.format.specs.Interpolative.{width, offset, middle, part, rising}
 use Rattle.format.specs.Laws.Parts.{Node, node, part-node, part-none}
 use Rattle.bits.specs.declared.Pen.{Pen}
 use Rattle.bits.specs.Pen.{Inside, Drawn}
 use Rattle.bits.specs.Laws.Pen.{drawn-both}
 use Rattle.write_interpolative.specs.Parts.{elements, image, Ready, Halves}
-
-pub size-width : (possible : ℕ) → size (possible - 1) ≡ width possible
-unfolding size width
-size-width possible = refl
 
 -- ---- the rising list, cut
 

@@ -1,18 +1,13 @@
 -- What is said of a word of one code is said of it where the code was given as that one.
 use mathlib.Core.Path.{_≡_, sym, ap, subst}
 use mathlib.Core.List.{List}
-use Prim.Native.Nat.{ℕ, _≤_}
+use Prim.Native.Nat.{ℕ}
 use lib.ListN.{length}
-use Rattle.format.specs.Limits.{largestParameter}
 use Rattle.bits.specs.declared.Pen.{Pen}
 use Rattle.bits.specs.Pen.{Room, Drawn}
 use Rattle.bits.specs.Laws.Pen.{room-as, drawn-as}
-use Rattle.write_words.specs.declared.Words.{Words}
-use Rattle.write_words.specs.declared.Words.the-variants.{Rice}
-use Rattle.write_words.specs.Words.{imageBy, Known}
-
-pub rice-known : (code : Words) (k : ℕ) → code ≡ Rice k → Known code → k ≤ largestParameter
-rice-known code k e h = subst Known e h
+use Rattle.headings.specs.declared.bodies.Words.{Words}
+use Rattle.headings.specs.Bodies.{imageBy}
 
 module _ (code given : Words) (e : code ≡ given) (w : ℕ) where
   pub counted : (r : ℕ) → r ≡ length (imageBy given w) → r ≡ length (imageBy code w)

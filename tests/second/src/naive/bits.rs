@@ -19,6 +19,16 @@ pub fn binary(word: u64) -> Bits {
     lowest_first.into_iter().rev().collect()
 }
 
+/// The number whose highest bit comes first.
+pub fn number(bits: &[bool]) -> u64 {
+    bits.iter().fold(0, |number, &bit| 2 * number + u64::from(bit))
+}
+
+/// The first `count` bits of the bytes.
+pub fn taken(bytes: &[u8], count: usize) -> Bits {
+    (0..count).map(|at| bytes[at / 8] & (128 >> (at % 8)) != 0).collect()
+}
+
 /// Puts the bits into the bytes from bit `start` on, bit 0 being the highest bit of byte 0.
 pub fn place(bytes: &mut [u8], start: usize, bits: &[bool]) {
     for (offset, &bit) in bits.iter().enumerate() {

@@ -2,6 +2,32 @@
 
 use super::bits::{binary, in_width, Bits};
 
+pub const LARGEST_WORD: u64 = 4_294_967_295;
+
+/// The length of B of the largest word.
+pub const LONGEST_BINARY: usize = 32;
+
+/// The codes whose bodies are words in order.
+#[derive(Clone, Copy, Debug, PartialEq, Eq)]
+pub enum WordCode {
+    Gamma,
+    Delta,
+    Rice(u32),
+    VariableByte,
+}
+
+impl WordCode {
+    /// The bits of this word.
+    pub fn image(self, word: u64) -> Bits {
+        match self {
+            WordCode::Gamma => gamma(word),
+            WordCode::Delta => delta(word),
+            WordCode::Rice(k) => rice(k, word),
+            WordCode::VariableByte => variable_byte(word),
+        }
+    }
+}
+
 /// One zero fewer than B(w) is long, then B(w).
 pub fn gamma(word: u64) -> Bits {
     let digits = binary(word);

@@ -1,5 +1,6 @@
 //! What a caller chooses for a record, judged from bare numbers.
 
+use super::codes::WordCode;
 use super::kinds::Kind;
 
 /// Plain and instants share one entry, corrections have their own.
@@ -7,6 +8,18 @@ use super::kinds::Kind;
 pub enum Entry {
     Unsigned,
     Corrections,
+}
+
+impl Entry {
+    /// The kind of this number, if this entry takes it.
+    pub fn kind(self, number: u32) -> Option<Kind> {
+        match (self, number) {
+            (Entry::Unsigned, 0) => Some(Kind::Plain),
+            (Entry::Unsigned, 1) => Some(Kind::Instants),
+            (Entry::Corrections, 2) => Some(Kind::Corrections),
+            _ => None,
+        }
+    }
 }
 
 #[derive(Clone, Copy, Debug, PartialEq, Eq)]
@@ -28,6 +41,25 @@ impl Code {
             Code::Interpolative => 5,
         }
     }
+
+    /// Rice's k, 0 for every other code.
+    pub fn parameter(self) -> u32 {
+        match self {
+            Code::Rice(k) => k,
+            _ => 0,
+        }
+    }
+
+    /// The code of each word, if the body is the words in order.
+    pub fn of_words(self) -> Option<WordCode> {
+        match self {
+            Code::Gamma => Some(WordCode::Gamma),
+            Code::Delta => Some(WordCode::Delta),
+            Code::Rice(k) => Some(WordCode::Rice(k)),
+            Code::VariableByte => Some(WordCode::VariableByte),
+            Code::Interpolative => None,
+        }
+    }
 }
 
 #[derive(Clone, Copy, Debug, PartialEq, Eq)]
@@ -46,12 +78,7 @@ pub fn chosen(entry: Entry, code: u32, parameter: u32, kind: u32) -> Option<Head
         5 => Code::Interpolative,
         _ => return None,
     };
-    let kind = match (entry, kind) {
-        (Entry::Unsigned, 0) => Kind::Plain,
-        (Entry::Unsigned, 1) => Kind::Instants,
-        (Entry::Corrections, 2) => Kind::Corrections,
-        _ => return None,
-    };
+    let kind = entry.kind(kind)?;
     if code == Code::Interpolative && kind != Kind::Instants {
         return None;
     }

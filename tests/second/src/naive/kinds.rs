@@ -39,6 +39,17 @@ impl Kind {
             Kind::Corrections => -2 * value + 1,
         }
     }
+
+    /// The value that this word forms behind these values, in range or not.
+    pub fn value(self, before: &[i64], word: u64) -> i64 {
+        let word = word as i64;
+        match self {
+            Kind::Plain => word,
+            Kind::Instants => before.last().unwrap_or(&0) + word - 1,
+            Kind::Corrections if word % 2 == 0 => word / 2,
+            Kind::Corrections => -(word / 2),
+        }
+    }
 }
 
 #[derive(Clone, Copy, Debug, PartialEq, Eq)]

@@ -1,7 +1,7 @@
 //! A whole record as bits.
 
 use super::bits::{in_width, Bits};
-use super::codes::{delta, gamma, rice, rice_length, variable_byte};
+use super::codes::{gamma, rice_length};
 use super::heading::{Code, Heading};
 use super::interpolative;
 
@@ -29,18 +29,9 @@ pub fn length(heading: Heading, values: &[i64]) -> u64 {
 /// The record of a list without faults.
 pub fn bits(heading: Heading, values: &[i64]) -> Bits {
     let mut bits = heading_bits(heading, values.len());
-    let one_word: &dyn Fn(u64) -> Bits = match heading.code {
-        Code::Gamma => &gamma,
-        Code::Delta => &delta,
-        Code::Rice(k) => &move |word| rice(k, word),
-        Code::VariableByte => &variable_byte,
-        Code::Interpolative => {
-            bits.extend(interpolative::body(values));
-            return bits;
-        }
-    };
-    for word in heading.kind.words(values) {
-        bits.extend(one_word(word));
+    match heading.code.of_words() {
+        Some(code) => bits.extend(heading.kind.words(values).into_iter().flat_map(|word| code.image(word))),
+        None => bits.extend(interpolative::body(values)),
     }
     bits
 }

@@ -4,9 +4,7 @@ use super::bits::{place, Bits};
 use super::heading::{chosen, Entry, Heading};
 use super::kinds::{first_fault, Fault};
 use super::record;
-
-const MOST_BYTES: usize = 65_536;
-const MOST_VALUES: usize = 4_096;
+use super::{MOST_BYTES, MOST_VALUES};
 
 #[derive(Clone, Debug, PartialEq, Eq)]
 pub struct Outcome {

@@ -3,7 +3,7 @@ use lib.ListN.{length}
 use Rattle.format.specs.Answers.{Start}
 use Rattle.format.specs.Kinds.{Corrections}
 use Rattle.headings.specs.Headings.{kindOf}
-use Rattle.write_records.specs.Laws.Bodies.{signed-corrections}
+use Rattle.headings.specs.Laws.Bodies.{signed-corrections}
 use Rattle.write_records.specs.declared.Put.the-variants.{Done, Full}
 use Rattle.moortangle.specs.Laws.Record.{was-chosen, was-unknown, was-fine, was-range, was-falls, put-as, valid-for, too-many, at-fault, put-there, buffer-long, start-past, none-chosen}
 use native.Mathlib.Omega.{arith}

@@ -6,7 +6,7 @@ use mir.Syntax.{w32}
 use mir.Facts.{toZ-ofZ}
 use Rattle.format.specs.Kinds.{Corrections}
 use Rattle.lists.specs.Laws.Judging.{at-signed}
-use Rattle.write_words.specs.Words.{imageBy}
+use Rattle.headings.specs.Bodies.{imageBy}
 use Rattle.write_lists.specs.Laws.Images.{correction-word, Counted, counted-none, counted-fits, counted-more, counted-all}
 use borrow.Author.Needs.{needs, sfits-of}
 use native.Mathlib.Omega.{arith}

@@ -4,7 +4,7 @@ use lib.IntN.{pos}
 use lib.ListN.{length, length-map}
 use Rattle.lists.specs.Judged.{unsignedKind}
 use Rattle.lists.specs.Laws.Judging.{at-unsigned}
-use Rattle.write_words.specs.Words.{imageBy}
+use Rattle.headings.specs.Bodies.{imageBy}
 use Rattle.write_lists.specs.Laws.Images.{Counted, counted-none, counted-fits, counted-more, counted-all}
 use borrow.Author.Needs.{needs}
 use native.Mathlib.Omega.{arith}

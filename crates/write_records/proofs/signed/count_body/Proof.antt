@@ -1,7 +1,8 @@
 use mathlib.Core.Path.{sym, ap, _∙_}
 use lib.ListN.{length}
 use Rattle.format.specs.Kinds.{Corrections}
-use Rattle.write_records.specs.Laws.Bodies.{was-words, was-halves, small-parameter, words-body, words-list, is-corrections, not-halves}
+use Rattle.write_records.specs.Laws.Bodies.{small-parameter, words-image, words-list, is-corrections, not-halves}
+use Rattle.headings.specs.Laws.Bodies.{was-words, was-halves}
 use native.Mathlib.Omega.{arith}
 use borrow.Author.Needs.{needs}
 use Rattle.write_records.proofs.signed.count_body.Statement.{statement}
@@ -19,7 +20,7 @@ count-requires c κs =
     let a = u .args in
     let vs = a .values .now in
     let t = was-words (c .before .before .before .body-of .ensures) (c .before .words .given .1) in
-    (t .known, words-list (a .h) vs Corrections (u .pre .valid) (is-corrections (a .h) vs (u .pre)), u .pre .valid .count)
+    (t .0, words-list (a .h) vs Corrections (u .pre .valid) (is-corrections (a .h) vs (u .pre)), u .pre .valid .count)
 
 enum-told : tie.Need-enum-told
 enum-told c = search needs
@@ -31,7 +32,7 @@ returns c =
     let vs = a .values .now in
     let g = c .before .before .words .given in
     let t = was-words (c .before .before .before .before .body-of .ensures) (g .1) in
-    (c .count .ensures .0 ∙ ap length (sym (words-body (a .h) vs (g .0 .0) Corrections t (is-corrections (a .h) vs (u .pre)))), omega arith)
+    (c .count .ensures .0 ∙ ap length (sym (words-image (a .h) vs (g .0 .0) Corrections (t .1) (is-corrections (a .h) vs (u .pre)))), omega arith)
 
 returns-2 : tie.Need-returns-2
 returns-2 c =

@@ -1,7 +1,8 @@
 use mathlib.Core.Path.{sym}
 use Rattle.format.specs.Kinds.{Corrections}
 use Rattle.bits.specs.Laws.Pen.{room-as, drawn-as}
-use Rattle.write_records.specs.Laws.Bodies.{was-words, was-halves, small-parameter, words-body, words-list, is-corrections, not-halves}
+use Rattle.write_records.specs.Laws.Bodies.{small-parameter, words-image, words-list, is-corrections, not-halves}
+use Rattle.headings.specs.Laws.Bodies.{was-words, was-halves}
 use borrow.Author.Needs.{needs}
 use Rattle.write_records.proofs.signed.write_body.Statement.{statement}
 use Rattle.write_records.proofs.signed.write_body.Tie as tie
@@ -22,8 +23,8 @@ write-requires c κs =
     let g = c .before .before .words .given in
     let t = was-words (c .before .before .before .before .body-of .ensures) (g .1) in
     let e = is-corrections (a .h) vs (u .pre .0) in
-    let l = words-body (a .h) vs (g .0 .0) Corrections t e in
-    ((t .known, words-list (a .h) vs Corrections (u .pre .0 .valid) e), room-as l (u .pre .1))
+    let l = words-image (a .h) vs (g .0 .0) Corrections (t .1) e in
+    ((t .0, words-list (a .h) vs Corrections (u .pre .0 .valid) e), room-as l (u .pre .1))
 
 enum-told : tie.Need-enum-told
 enum-told c = search needs
@@ -38,7 +39,7 @@ returns c =
     let vs = a .values .now in
     let g = c .before .before .before .before .before .words .given in
     let t = was-words (c .before .before .before .before .before .before .before .body-of .ensures) (g .1) in
-    drawn-as (sym (words-body (a .h) vs (g .0 .0) Corrections t (is-corrections (a .h) vs (u .pre .0)))) (c .before .before .write .ensures)
+    drawn-as (sym (words-image (a .h) vs (g .0 .0) Corrections (t .1) (is-corrections (a .h) vs (u .pre .0)))) (c .before .before .write .ensures)
 
 returns-2 : tie.Need-returns-2
 returns-2 c =

@@ -3,7 +3,8 @@ use mathlib.Core.List.{map}
 use lib.IntN.{pos}
 use lib.ListN.{length, length-map}
 use Rattle.lists.specs.Judged.{unsignedKind}
-use Rattle.write_records.specs.Laws.Bodies.{was-words, was-halves, small-parameter, words-body, words-list, halves-never, halves-body}
+use Rattle.write_records.specs.Laws.Bodies.{small-parameter, words-image, words-list, halves-never, halves-image}
+use Rattle.headings.specs.Laws.Bodies.{was-words, was-halves}
 use native.Mathlib.Omega.{arith}
 use borrow.Author.Needs.{needs}
 use Rattle.write_records.proofs.unsigned.count_body.Statement.{statement}
@@ -27,7 +28,7 @@ count-requires c κs =
     let vs = map pos (a .values .now) in
     let t = was-words (c .before .before .before .body-of .ensures) (c .before .words .given .1) in
     let k = c .before .before .before .before .is-instants in
-    (t .known, words-list (a .h) vs (unsignedKind (k .result)) (u .pre .valid) (k .ensures (u .pre .family)), omega (arith, u .pre .valid .count, length-map (a .values .now) pos))
+    (t .0, words-list (a .h) vs (unsignedKind (k .result)) (u .pre .valid) (k .ensures (u .pre .family)), omega (arith, u .pre .valid .count, length-map (a .values .now) pos))
 
 enum-told : tie.Need-enum-told
 enum-told c = search needs
@@ -47,14 +48,14 @@ returns c =
     let g = c .before .before .words .given in
     let t = was-words (c .before .before .before .before .body-of .ensures) (g .1) in
     let k = c .before .before .before .before .before .is-instants in
-    (c .count .ensures .0 ∙ ap length (sym (words-body (a .h) vs (g .0 .0) (unsignedKind (k .result)) t (k .ensures (u .pre .family)))), omega arith)
+    (c .count .ensures .0 ∙ ap length (sym (words-image (a .h) vs (g .0 .0) (unsignedKind (k .result)) (t .1) (k .ensures (u .pre .family)))), omega arith)
 
 returns-2 : tie.Need-returns-2
 returns-2 c =
     let u = c .before .before .before .before .before .before in
     let a = u .args in
     let e = was-halves (c .before .before .before .body-of .ensures) (c .before .enum-told .given .1) in
-    (c .count2 .ensures .0 ∙ ap length (sym (halves-body (a .h) (a .values .now) e)), omega arith)
+    (c .count2 .ensures .0 ∙ ap length (sym (halves-image (a .h) (a .values .now) e)), omega arith)
 
 pub count-body-spec : {M : Type 1} → statement M
 count-body-spec =

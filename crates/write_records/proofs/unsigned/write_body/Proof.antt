@@ -4,7 +4,8 @@ use lib.IntN.{pos}
 use lib.ListN.{length-map}
 use Rattle.lists.specs.Judged.{unsignedKind}
 use Rattle.bits.specs.Laws.Pen.{room-as, drawn-as}
-use Rattle.write_records.specs.Laws.Bodies.{was-words, was-halves, small-parameter, words-body, words-list, halves-never, halves-body}
+use Rattle.write_records.specs.Laws.Bodies.{small-parameter, words-image, words-list, halves-never, halves-image}
+use Rattle.headings.specs.Laws.Bodies.{was-words, was-halves}
 use native.Mathlib.Omega.{arith}
 use borrow.Author.Needs.{needs}
 use Rattle.write_records.proofs.unsigned.write_body.Statement.{statement}
@@ -30,8 +31,8 @@ write-requires c κs =
     let t = was-words (c .before .before .before .before .body-of .ensures) (g .1) in
     let k = c .before .before .before .before .before .is-instants in
     let e = k .ensures (u .pre .0 .family) in
-    let l = words-body (a .h) vs (g .0 .0) (unsignedKind (k .result)) t e in
-    ((t .known, words-list (a .h) vs (unsignedKind (k .result)) (u .pre .0 .valid) e), room-as l (u .pre .1))
+    let l = words-image (a .h) vs (g .0 .0) (unsignedKind (k .result)) (t .1) e in
+    ((t .0, words-list (a .h) vs (unsignedKind (k .result)) (u .pre .0 .valid) e), room-as l (u .pre .1))
 
 enum-told : tie.Need-enum-told
 enum-told c = search needs
@@ -41,7 +42,7 @@ write-requires-2 c κs =
     let u = c .before .before .before .before .before .before .before in
     let a = u .args in
     let e = was-halves (c .before .before .before .body-of .ensures) (c .before .enum-told .given .1) in
-    let l = halves-body (a .h) (a .values .now) e in
+    let l = halves-image (a .h) (a .values .now) e in
     ((halves-never (a .h) (a .values .now) (u .pre .0 .valid) e, omega (arith, u .pre .0 .valid .count, length-map (a .values .now) pos)), room-as l (u .pre .1))
 
 same-length : tie.Need-same-length
@@ -55,7 +56,7 @@ returns c =
     let g = c .before .before .before .before .before .words .given in
     let t = was-words (c .before .before .before .before .before .before .before .body-of .ensures) (g .1) in
     let k = c .before .before .before .before .before .before .before .before .is-instants in
-    drawn-as (sym (words-body (a .h) vs (g .0 .0) (unsignedKind (k .result)) t (k .ensures (u .pre .0 .family)))) (c .before .before .write .ensures)
+    drawn-as (sym (words-image (a .h) vs (g .0 .0) (unsignedKind (k .result)) (t .1) (k .ensures (u .pre .0 .family)))) (c .before .before .write .ensures)
 
 same-length-2 : tie.Need-same-length-2
 same-length-2 c = search needs
@@ -65,7 +66,7 @@ returns-2 c =
     let u = c .before .before .before .before .before .before .before .before .before .before in
     let a = u .args in
     let e = was-halves (c .before .before .before .before .before .before .body-of .ensures) (c .before .before .before .before .enum-told .given .1) in
-    drawn-as (sym (halves-body (a .h) (a .values .now) e)) (c .before .before .write2 .ensures)
+    drawn-as (sym (halves-image (a .h) (a .values .now) e)) (c .before .before .write2 .ensures)
 
 pub write-body-spec : {M : Type 1} → statement M
 write-body-spec =

@@ -1,7 +1,8 @@
 use native.Mathlib.Omega.{arith}
 use borrow.Author.Needs.{needs}
-use Rattle.write_words.specs.declared.Words.the-variants.{Gamma, Delta, Rice, VariableByte}
-use Rattle.write_words.specs.Laws.ByCode.{rice-known, counted}
+use Rattle.headings.specs.declared.bodies.Words.the-variants.{Gamma, Delta, Rice, VariableByte}
+use Rattle.headings.specs.Laws.Bodies.{rice-known}
+use Rattle.write_words.specs.Laws.ByCode.{counted}
 use Rattle.write_words.proofs.by_code.count.Statement.{statement}
 use Rattle.write_words.proofs.by_code.count.Tie as tie
 

@@ -1,5 +1,6 @@
-use Rattle.write_words.specs.declared.Words.the-variants.{Gamma, Delta, Rice, VariableByte}
-use Rattle.write_words.specs.Laws.ByCode.{rice-known, room, drew}
+use Rattle.headings.specs.declared.bodies.Words.the-variants.{Gamma, Delta, Rice, VariableByte}
+use Rattle.headings.specs.Laws.Bodies.{rice-known}
+use Rattle.write_words.specs.Laws.ByCode.{room, drew}
 use borrow.Author.Needs.{needs}
 use Rattle.write_words.proofs.by_code.write.Statement.{statement}
 use Rattle.write_words.proofs.by_code.write.Tie as tie

@@ -1,0 +1,37 @@
+-- A reader "uses no bit from the stop on", nor one before the start: two buffers that agree between get the same answer and list.
+use mathlib.Core.Path.{_≡_}
+use mathlib.Core.Bool.{Bool}
+use mathlib.Core.List.{List}
+use Prim.Native.Nat.{ℕ}
+use lib.IntN.{ℤ}
+use lib.ListN.{length}
+use Rattle.layout.specs.Bits.{window}
+use Rattle.format.specs.Kinds.{Kind, Family}
+use Rattle.format.specs.Records.{This}
+use Rattle.format.specs.Answers.{Outcome, Span}
+use Rattle.format.specs.Reading.{Reader, askedFor, LookUp, LooksUp, Search, Searches}
+use Rattle.format.specs.Laws.Reading.{entry-same, looks-up-one, searches-one}
+use Rattle.read_records.specs.declared.Read.{Read}
+use Rattle.moortangle.specs.Reads.{ReadsInto}
+use Rattle.moortangle.specs.Laws.Unique.{read-one}
+
+module _ (bytes bytes′ : List ℕ) (start stop : ℕ) (s : Span bytes start stop) (s′ : Span bytes′ start stop) (e : window bytes start stop ≡ window bytes′ start stop) where
+  pub read-agrees : (f : Family) (kind : ℕ) (old new new′ : List ℤ) (a b : Read) → ReadsInto bytes start stop f kind old a new → ReadsInto bytes′ start stop f kind old b new′ → (a ≡ b) × (new ≡ new′)
+  read-agrees f kind old new new′ a b x y =
+      read-one bytes′ start stop f kind old a b new new′
+      (record {
+        reads = record {
+          answer = entry-same (λ (w : List Bool) (t : Kind). Reader (record { wanted = This t; room = length old }) stop w) bytes bytes′ start stop s s′ e (x .reads .answer);
+          list = x .reads .list;
+        };
+        counted = x .counted;
+      })
+      y
+
+  pub look-up-agrees : (f : Family) (kind place : ℕ) (x y : Outcome ℤ) → LooksUp bytes start stop f kind place x → LooksUp bytes′ start stop f kind place y → x ≡ y
+  look-up-agrees f kind place x y h l =
+      looks-up-one bytes′ start stop f kind place x y (entry-same (λ (w : List Bool) (t : Kind). LookUp place (askedFor t) stop w) bytes bytes′ start stop s s′ e h) l
+
+  pub search-agrees : (sought : ℕ) (x y : Outcome ℕ) → Searches bytes start stop sought x → Searches bytes′ start stop sought y → x ≡ y
+  search-agrees sought x y h l =
+      searches-one bytes′ start stop sought x y (entry-same (λ (w : List Bool) (t : Kind). Search sought (askedFor t) stop w) bytes bytes′ start stop s s′ e h) l

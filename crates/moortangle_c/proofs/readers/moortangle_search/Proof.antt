@@ -1,0 +1,28 @@
+use Rattle.moortangle_c.specs.Flat.{flatPlace}
+use Rattle.moortangle_c.specs.Laws.Flat.{tells-between}
+use Rattle.format.specs.Reading.{Searches}
+use Prim.Native.Nat.{ℕ}
+use borrow.Author.Needs.{needs}
+use Rattle.moortangle_c.proofs.readers.moortangle_search.Statement.{statement}
+use Rattle.moortangle_c.proofs.readers.moortangle_search.Tie as tie
+
+new-requires : tie.Need-new-requires
+new-requires c κs = search needs
+
+new-requires-2 : tie.Need-new-requires-2
+new-requires-2 c κs = search needs
+
+search-requires : tie.Need-search-requires
+search-requires c κs = search needs
+
+place-of-requires : tie.Need-place-of-requires
+place-of-requires c κs = search needs
+
+returns : tie.Need-returns
+returns c =
+    let a = c .before .before .before .before .before .args in
+    tells-between flatPlace (λ (start stop : ℕ). Searches (a .buffer .now) start stop (a .instant)) (c .before .before .before .new .ensures) (c .before .before .new2 .ensures) (c .before .search .ensures) (c .place-of .ensures)
+
+pub moortangle-search-spec : {M : Type 1} → statement M
+moortangle-search-spec =
+    tie.close (tie.spec new-requires new-requires-2 search-requires place-of-requires returns)

@@ -1,0 +1,5 @@
+-- What follows from the definitions. Nothing here has to be believed: it is proved.
+pub mod Fields
+pub mod Headings
+pub mod Told
+pub mod Same

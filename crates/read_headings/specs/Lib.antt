@@ -1,0 +1,3 @@
+pub mod Told
+pub mod Fields
+pub mod Laws

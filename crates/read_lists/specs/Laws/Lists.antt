@@ -1,0 +1,64 @@
+-- What a loop over a list keeps, with one value more at the list's end.
+use mathlib.Core.Path.{_≡_, refl, sym, ap, _∙_}
+use mathlib.Core.Bool.{Bool, true, false}
+use mathlib.Core.List.{List, [], _∷_, _++_, map, map-append, append-assoc}
+use Prim.Native.Nat.{ℕ, zero, suc, _+_, _-_, _≤_, _<_}
+use native.Mathlib.Numerals.{add-one}
+use native.Mathlib.Omega.{arith}
+use borrow.Author.Tests.{lt-ltb, le-ltb}
+use lib.Dec.{ltb}
+use lib.IntN.{ℤ, pos}
+use lib.ListN.{length, getD, drop, set}
+use lib.Seq.{drop-cons, set-at}
+use Rattle.format.specs.Kinds.{natural}
+use Rattle.format.specs.Reading.{below}
+
+-- ---- the value at a place, which is d until the place is reached
+
+pub kept-more : {A : Type 0} (d : A) (vs : List A) {i place : ℕ} {x old new : A} → length vs ≡ i → (i ≡ place → new ≡ x) → ((i ≡ place → ⊥) → new ≡ old)
+    → old ≡ getD vs place d → new ≡ getD (vs ++ x ∷ []) place d
+kept-more d [] {place = zero} e f g h = f (sym e)
+kept-more d [] {place = suc j} e f g h = g (λ k. omega arith) ∙ h
+kept-more d (v ∷ vs) {place = zero} e f g h = g (λ k. omega arith) ∙ h
+kept-more d (v ∷ vs) {i = i} {place = suc j} e f g h = kept-more d vs {i = i - 1} (omega arith) (λ k. f (omega arith)) (λ k. g (λ l. k (omega arith))) h
+
+-- ---- the number of values below a sought one
+
+one-more : (b : Bool) (m n k : ℕ) → m ≡ n + k → elim b [ true ↦ suc m | false ↦ m ] ≡ elim b [ true ↦ suc n | false ↦ n ] + k
+one-more true m n k e = omega arith
+one-more false m n k e = e
+
+below-more : (sought : ℕ) (vs : List ℤ) (v : ℤ) → below sought (vs ++ v ∷ []) ≡ below sought vs + below sought (v ∷ [])
+below-more sought [] v = omega arith
+below-more sought (u ∷ vs) v = one-more (ltb (natural u) sought) _ _ _ (below-more sought vs v)
+
+pub counts : (x sought : ℕ) → x < sought → below sought (pos x ∷ []) ≡ 1
+counts x sought h = ap (λ (b : Bool). elim b [ true ↦ 1 | false ↦ 0 ]) (lt-ltb x sought h)
+
+pub counts-not : (x sought : ℕ) → sought ≤ x → below sought (pos x ∷ []) ≡ 0
+counts-not x sought h = ap (λ (b : Bool). elim b [ true ↦ 1 | false ↦ 0 ]) (le-ltb x sought h)
+
+pub counted-more : (sought : ℕ) (ns : List ℕ) (x : ℕ) {less new : ℕ} → less ≡ below sought (map pos ns) → new ≡ less + below sought (pos x ∷ []) → new ≡ below sought (map pos (ns ++ x ∷ []))
+counted-more sought ns x e f =
+    f ∙ ap (λ (k : ℕ). k + below sought (pos x ∷ [])) e ∙ sym (below-more sought (map pos ns) (pos x)) ∙ ap (below sought) (sym (map-append pos ns (x ∷ [])))
+
+-- ---- a lent list, of which the first i values have been filled in
+
+pub stored-more : {A : Type 0} (d : A) (vs old : List A) {i : ℕ} (x : A) → length vs ≡ i → i < length old → set (vs ++ drop i old) i x ≡ (vs ++ x ∷ []) ++ drop (i + 1) old
+stored-more {A} d vs old {i} x e h =
+    ap (λ (l : List A). set (vs ++ l) i x) (drop-cons old i d h)
+    ∙ set-at vs (getD old i d) (drop (suc i) old) x i e
+    ∙ ap (λ (k : ℕ). vs ++ x ∷ drop k old) (sym (add-one i))
+    ∙ sym (append-assoc vs (x ∷ []) (drop (i + 1) old))
+
+naturals-drop : (i : ℕ) (ns : List ℕ) → map pos (drop i ns) ≡ drop i (map pos ns)
+naturals-drop zero ns = refl
+naturals-drop (suc i) [] = refl
+naturals-drop (suc i) (n ∷ ns) = naturals-drop i ns
+
+pub stored-naturals : (ns old : List ℕ) {i : ℕ} {new : List ℕ} → length (map pos ns) ≡ i → new ≡ ns ++ drop i old → map pos new ≡ map pos ns ++ drop (length (map pos ns)) (map pos old)
+stored-naturals ns old {i} e f =
+    ap (map pos) f
+    ∙ map-append pos ns (drop i old)
+    ∙ ap (λ (l : List ℤ). map pos ns ++ l) (naturals-drop i old)
+    ∙ ap (λ (k : ℕ). map pos ns ++ drop k (map pos old)) (sym e)

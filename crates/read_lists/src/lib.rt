@@ -1,0 +1,47 @@
+// The body of a record that is read word by word: judged without a list, and filled into one.
+ghost use Prim.Native.Nat.{_+_, _*_, _≤_};
+ghost use lib.ListN.{length, take, drop};
+ghost use Rattle.layout.specs.Bits.{bitsOf};
+ghost use Rattle.layout.specs.Laws.Bits.{val};
+ghost use Rattle.format.specs.Codes.{Word};
+ghost use Rattle.bits.specs.Cursor.{Within};
+ghost use Rattle.read_words.specs.Glimpsed.{Glimpsed};
+ghost use Rattle.read_words.specs.Told.{ToldWord};
+ghost use Rattle.headings.specs.Bodies.{imageBy, Known};
+use bits::Cursor;
+use headings::bodies::Words;
+use read_words::Read;
+use read_words::delta;
+use read_words::gamma;
+use read_words::rice;
+use read_words::variable_byte;
+
+pub mod signed;
+pub mod unsigned;
+
+// A word of whichever code of words a list has.
+pub(crate) fn word(c: Cursor, s: &[u8], code: Words) -> Read
+    requires { ⌜ Within c (length (now s)) × Known code ⌝ }
+    ensures { λ r. ⌜ ToldWord Word (imageBy code) (now (s .entry)) c r ⌝ }
+{
+    match code {
+        Words::Gamma => gamma::read(c, s),
+        Words::Delta => delta::read(c, s),
+        Words::Rice(k) => rice::read(c, s, k),
+        Words::VariableByte => variable_byte::read(c, s),
+    }
+}
+
+// The same by one look at the 32 bits from `at` on, which settles most words, and with no cursor to hand back.
+pub(crate) fn glimpse(s: &[u8], at: usize, code: Words) -> u64
+    requires { ⌜ (at + 32 ≤ 8 * length (now s)) × (length (now s) ≤ 65536) × Known code ⌝ }
+    ensures { λ r. ⌜ Glimpsed (imageBy code) (val (take 32 (drop at (bitsOf (now (s .entry)))))) r ⌝ }
+{
+    let n = bits::number::number(s, at, 32);
+    match code {
+        Words::Gamma => read_words::glimpse::gamma(n),
+        Words::Delta => read_words::glimpse::delta(n),
+        Words::Rice(k) => read_words::glimpse::rice(n, k),
+        Words::VariableByte => read_words::glimpse::variable_byte(n),
+    }
+}

@@ -1,0 +1,160 @@
+// Plain values and instants.
+ghost use mathlib.Core.Path.{_≡_};
+ghost use mathlib.Core.List.{[], _∷_, map};
+ghost use Prim.Native.Nat.{_+_, _≤_, _<_};
+ghost use lib.IntN.{pos};
+ghost use lib.ListN.{length};
+ghost use Rattle.format.specs.Limits.{longestList};
+ghost use Rattle.format.specs.Reading.{below};
+ghost use Rattle.format.specs.Records.{wordsBy};
+ghost use Rattle.layout.specs.Layout.{word};
+ghost use Rattle.format.specs.Codes.{Word};
+ghost use Rattle.bits.specs.Cursor.{Within, Taken};
+ghost use Rattle.lists.specs.Judged.{unsignedKind};
+ghost use Rattle.headings.specs.Bodies.{imageBy, Known};
+ghost use Rattle.reading.specs.Judging.{ToldJudged, Holds, Filled};
+ghost use Rattle.read_lists.specs.Told.{ToldValue};
+use bits::BitPos;
+use bits::Cursor;
+use headings::bodies::Words;
+use read_words::Read;
+use reading::Judged;
+use reading::Refusal;
+
+// A value formed of a word, or why it is none.
+enum Value {
+    Is(u32, Cursor),
+    No(Refusal, BitPos),
+}
+
+// The value that the word w stands for after the one before: 10 is told at the word, which stands from c up to d.
+fn formed(c: Cursor, d: Cursor, s: &[u8], code: Words, w: u32, instants: bool, before: u32) -> Value
+    requires { ⌜ Within c (length (now s)) × Taken (word Word (imageBy code)) (now s) c w d ⌝ }
+    ensures { λ r. ⌜ ToldValue (imageBy code) (unsignedKind instants) (pos before) (now (s .entry)) c r ⌝ }
+{
+    if instants {
+        let v = before as u64 + w as u64 - 1;
+        if 4294967294 < v {
+            return Value::No(Refusal::OutOfRange, c.at());
+        }
+        return Value::Is(v as u32, d);
+    }
+    Value::Is(w, d)
+}
+
+// One value, whatever its word is.
+fn careful(c: Cursor, s: &[u8], code: Words, instants: bool, before: u32) -> Value
+    requires { ⌜ Within c (length (now s)) × Known code ⌝ }
+    ensures { λ r. ⌜ ToldValue (imageBy code) (unsignedKind instants) (pos before) (now (s .entry)) c r ⌝ }
+{
+    match crate::word(c, s, code) {
+        Read::Took(w, d) => formed(c, d, s, code, w, instants, before),
+        Read::Cut => Value::No(Refusal::CutShort, c.at()),
+        Read::Bad(_) => Value::No(Refusal::BadWord, c.at()),
+    }
+}
+
+// One value, by one look where that settles its word.
+fn next(c: Cursor, s: &[u8], code: Words, instants: bool, before: u32) -> Value
+    requires { ⌜ Within c (length (now s)) × Known code ⌝ }
+    ensures { λ r. ⌜ ToldValue (imageBy code) (unsignedKind instants) (pos before) (now (s .entry)) c r ⌝ }
+{
+    if c.left() < 32 {
+        return careful(c, s, code, instants, before);
+    }
+    let q = crate::glimpse(s, c.at().bit(), code);
+    if q == 0 {
+        return careful(c, s, code, instants, before);
+    }
+    formed(
+        c,
+        c.on((q % 64) as usize),
+        s,
+        code,
+        (q / 64) as u32,
+        instants,
+        before,
+    )
+}
+
+// The value at the asked place among those so far, where x is the one at i.
+fn kept(old: u32, i: usize, place: usize, x: u32) -> u32
+    ensures { λ r. ⌜ (i ≡ place → r ≡ x) × ((i ≡ place → ⊥) → r ≡ old) ⌝ }
+{
+    if i == place { x } else { old }
+}
+
+// How many of those so far are below the sought one, where x is one more.
+fn counted(less: usize, x: u32, sought: u32) -> usize
+    requires { ⌜ less < longestList ⌝ }
+    ensures { λ r. ⌜ (r ≡ less + below sought (pos x ∷ [])) × (r ≤ less + 1) ⌝ }
+{
+    if x < sought { less + 1 } else { less }
+}
+
+// The n values, judged one after the other.
+pub fn judge(
+    start: Cursor,
+    s: &[u8],
+    code: Words,
+    instants: bool,
+    n: usize,
+    place: usize,
+    sought: u32,
+) -> Judged
+    requires { ⌜ Within start (length (now s)) × Known code × (n ≤ longestList) ⌝ }
+    ensures { λ r. ⌜ ToldJudged (wordsBy (imageBy code) (unsignedKind instants) n) place sought (now (s .entry)) start r ⌝ }
+{
+    let mut c = start;
+    let mut before = 0;
+    let mut v = 0;
+    let mut less = 0;
+    let mut i = 0;
+    while i < n {
+        match next(c, s, code, instants, before) {
+            Value::Is(x, d) => {
+                v = kept(v, i, place, x);
+                less = counted(less, x, sought);
+                before = x;
+                c = d;
+                i += 1;
+            }
+            Value::No(m, p) => {
+                return Judged::No(m, p);
+            }
+        }
+    }
+    Judged::Whole(v, less, c)
+}
+
+// The n values of a list that has been judged, put in front of a lent one.
+pub fn fill(
+    start: Cursor,
+    s: &[u8],
+    code: Words,
+    instants: bool,
+    n: usize,
+    list: &mut [u32],
+) -> Cursor
+    requires { ⌜ Within start (length (now s)) × Known code × (n ≤ length (now list)) ⌝ }
+    requires judged { ⌜ Holds (wordsBy (imageBy code) (unsignedKind instants) n) (now s) start ⌝ }
+    ensures { λ r. ⌜ Filled (wordsBy (imageBy code) (unsignedKind instants) n) (now (s .entry)) start (map pos (now (list .entry))) (map pos (now (list .exit))) r ⌝ }
+{
+    let mut c = start;
+    let mut before = 0;
+    let mut filled = 0;
+    while filled < n {
+        match next(c, s, code, instants, before) {
+            Value::Is(x, d) => {
+                list[filled] = x;
+                before = x;
+                c = d;
+                filled += 1;
+            }
+            Value::No(_, _) => {
+                return c;
+            }
+        }
+    }
+    c
+}

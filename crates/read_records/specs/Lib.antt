@@ -1,0 +1,4 @@
+pub mod Bodies
+pub mod Told
+pub mod Streams
+pub mod Laws

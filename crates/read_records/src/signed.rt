@@ -1,0 +1,89 @@
+// Records of corrections. Their body is never by halves: code 5 is for instants.
+ghost use Prim.Native.Nat.{_≤_};
+ghost use lib.ListN.{length};
+ghost use Rattle.format.specs.Limits.{longestList};
+ghost use Rattle.format.specs.Kinds.{Signed, Corrections};
+ghost use Rattle.format.specs.Reading.{LookUp, askedFor};
+ghost use Rattle.bits.specs.Cursor.{Within, left};
+ghost use Rattle.reading.specs.Judging.{ToldCorrections, Holds, Filled};
+ghost use Rattle.read_headings.specs.Told.{bodyOf};
+ghost use Rattle.read_records.specs.Bodies.{HeadingFor};
+ghost use Rattle.read_records.specs.Told.{ToldListed, ToldRead, lookedUpCorrection};
+use crate::LookedUpCorrection;
+use crate::Read;
+use bits::BitPos;
+use bits::Cursor;
+use headings::Heading;
+use headings::Kind;
+use headings::bodies::Body;
+use read_headings::Begun;
+use read_headings::Wanted;
+use reading::JudgedCorrections;
+use reading::Refusal;
+
+pub fn judge_body(c: Cursor, s: &[u8], h: Heading, n: usize, place: usize) -> JudgedCorrections
+    requires { ⌜ Within c (length (now s)) × HeadingFor Signed h × (n ≤ longestList) ⌝ }
+    ensures { λ r. ⌜ ToldCorrections (bodyOf h n) place (now (s .entry)) c r ⌝ }
+{
+    let code = h.code;
+    match headings::bodies::body_of(code) {
+        Body::ByWords(words) => read_lists::signed::judge(c, s, words, n, place),
+        Body::ByHalves => JudgedCorrections::Whole(0, c),
+    }
+}
+
+fn fill_body(c: Cursor, s: &[u8], h: Heading, n: usize, list: &mut [i32]) -> Cursor
+    requires { ⌜ Within c (length (now s)) × HeadingFor Signed h × (n ≤ length (now list)) ⌝ }
+    requires judged { ⌜ Holds (bodyOf h n) (now s) c ⌝ }
+    ensures { λ r. ⌜ Filled (bodyOf h n) (now (s .entry)) c (now (list .entry)) (now (list .exit)) r ⌝ }
+{
+    let code = h.code;
+    match headings::bodies::body_of(code) {
+        Body::ByWords(words) => read_lists::signed::fill(c, s, words, n, list),
+        Body::ByHalves => c,
+    }
+}
+
+// The list after a heading: judged, and then filled in.
+fn listed(c: Cursor, s: &[u8], h: Heading, n: usize, list: &mut [i32]) -> Read
+    requires { ⌜ Within c (length (now s)) × HeadingFor Signed h × (n ≤ longestList) × (n ≤ length (now list)) ⌝ }
+    ensures { λ r. ⌜ ToldListed h n (now (s .entry)) c (now (list .entry)) (now (list .exit)) r ⌝ }
+{
+    match judge_body(c, s, h, n, 0) {
+        JudgedCorrections::Whole(_, _) => {
+            let d = fill_body(c, s, h, n, list);
+            Read::Record(h, n, d.at())
+        }
+        JudgedCorrections::No(m, p) => Read::Refused(m, p),
+    }
+}
+
+pub fn read(c: Cursor, s: &[u8], list: &mut [i32]) -> Read
+    requires { ⌜ Within c (length (now s)) ⌝ }
+    ensures { λ r. ⌜ ToldRead Corrections (now (s .entry)) c (now (list .entry)) (now (list .exit)) r ⌝ }
+{
+    match read_headings::read(c, s, Wanted::This(Kind::Corrections), list.len()) {
+        Begun::Body(h, n, d) => listed(d, s, h, n, list),
+        Begun::End(d) => Read::End(d.at()),
+        Begun::No(m, p) => Read::Refused(m, p),
+    }
+}
+
+pub fn look_up(c: Cursor, s: &[u8], place: usize) -> LookedUpCorrection
+    requires { ⌜ Within c (length (now s)) ⌝ }
+    ensures { λ r. ⌜ LookUp place (askedFor Corrections) (c .stop .0) (left c (now (s .entry))) (lookedUpCorrection r) ⌝ }
+{
+    match read_headings::read(c, s, Wanted::This(Kind::Corrections), 4096) {
+        Begun::Body(h, n, d) => match judge_body(d, s, h, n, place) {
+            JudgedCorrections::Whole(v, _) => {
+                if place < n {
+                    return LookedUpCorrection::Value(v);
+                }
+                LookedUpCorrection::Refused(Refusal::Beyond, BitPos::new(0))
+            }
+            JudgedCorrections::No(m, p) => LookedUpCorrection::Refused(m, p),
+        },
+        Begun::End(_) => LookedUpCorrection::Refused(Refusal::Unknown, c.at()),
+        Begun::No(m, p) => LookedUpCorrection::Refused(m, p),
+    }
+}

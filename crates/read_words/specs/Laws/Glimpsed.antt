@@ -1,0 +1,196 @@
+-- Words by their leading zeros, within 32 bits.
+use mathlib.Core.Path.{_≡_, refl, sym, ap, ap₂, _∙_, subst, subst₂}
+use mathlib.Core.Bool.{Bool, true, false}
+use mathlib.Core.List.{List, _∷_, _++_, append-assoc, append-nil}
+use Prim.Native.Nat.{ℕ, zero, suc, _+_, _-_, _*_, _/_, _%_, _^_, _≤_, _<_}
+use native.Mathlib.Nat.{mod-lt, div-one, add-mul, one-mul, mul-le-mul-right}
+use native.Mathlib.Decide.{decLt}
+use native.Mathlib.Omega.{arith}
+use lib.Count.{leadingZeros, leading-top}
+use lib.Pow.{pow-pos, pow-add, pow-mono, shr-lt, shr-mono, shl-shr, shr-shr, high}
+use lib.ListN.{length, take, drop}
+use lib.Seq.{drop-at}
+use Rattle.layout.specs.Bits.{odd, inBits, bitsOf, zeros}
+use Rattle.layout.specs.Layout.{word}
+use Rattle.layout.specs.Laws.Bits.{val, front-is, length-inBits, inBits-split, inBits-cat, inBits-mod}
+use Rattle.layout.specs.Laws.Windows.{zeros-lead}
+use Rattle.format.specs.Codes.{Word, size, binary, gamma, delta, rice, groups, variableByte}
+use Rattle.format.specs.Laws.Codes.{sized, grouped-word}
+use Rattle.format.specs.Laws.Digits.{held-one}
+use Rattle.bits.specs.Cursor.{Within, left, onward, Taken}
+use Rattle.bits.specs.Laws.Cursor.{length-left, left-front, left-onward, onward-within}
+use Rattle.bits.specs.declared.Cursor.{Cursor}
+use Rattle.read_words.specs.Glimpsed.{Glimpsed, unsettled, seen}
+
+-- ---- the first digits of a number, by its leading zeros
+
+-- the k + 1 digits from its first one on, of which e follow
+top-part : (n k e : ℕ) → 2 ^ (k + e) ≤ n → n < 2 ^ suc (k + e) → (2 ^ k ≤ n / 2 ^ e) × (n / 2 ^ e < 2 ^ suc k)
+top-part n k e h l =
+    let a : 2 ^ (k + e) / 2 ^ e ≡ 2 ^ k = ap (λ (x : ℕ). x / 2 ^ e) (pow-add 2 k e) ∙ shl-shr (2 ^ k) e in
+    let b : suc (k + e) ≡ suc k + e = omega arith in
+    (subst (λ (x : ℕ). x ≤ n / 2 ^ e) a (shr-mono e h), shr-lt (suc k) e (subst (λ (x : ℕ). n < 2 ^ x) b l))
+
+size-of : (x z : ℕ) → 2 ^ z ≤ x → x < 2 ^ suc z → x < 2 ^ 32 → Word x × (size x ≡ suc z)
+size-of x z h l f =
+    let p = pow-pos z in
+    let w : Word x = (omega arith, omega arith) in
+    let (m, e, g) = sized w in
+    (w, e ∙ ap suc (held-one {b = 2} (omega arith) g (record { low = h; high = l })))
+
+-- its leading zeros and its first digits
+module _ (n : ℕ) (some : 0 < n) (fits : n < 2 ^ 32) where
+  pub zeros-few : (m : ℕ) → m < 32 → 2 ^ m ≤ n → leadingZeros 32 n ≤ 31 - m
+  zeros-few m h l =
+      let (j, e, a, b) = leading-top 32 n some fits in
+      go j e b (decLt j m)
+    where
+      go : (j : ℕ) → leadingZeros 32 n + suc j ≡ 32 → n < 2 ^ suc j → Dec (j < m) → leadingZeros 32 n ≤ 31 - m
+      go j e b (yes q) = let r : suc j ≤ m = omega arith in let s = pow-mono r in absurd (omega arith)
+      go j e b (no q) = omega arith
+
+  first-digits : (z k e : ℕ) → z ≡ leadingZeros 32 n → z + suc (k + e) ≡ 32 → (2 ^ k ≤ n / 2 ^ e) × (n / 2 ^ e < 2 ^ suc k)
+  first-digits z k e f g =
+      let (j, s, a, b) = leading-top 32 n some fits in
+      let i : j ≡ k + e = omega arith in
+      top-part n k e (subst (λ (x : ℕ). 2 ^ x ≤ n) i a) (subst (λ (x : ℕ). n < 2 ^ suc x) i b)
+
+-- ---- gamma
+
+gamma-whole : (x z : ℕ) → Word x → size x ≡ suc z → gamma x ≡ inBits (2 * z + 1) x
+unfolding gamma binary
+gamma-whole x z w e =
+    let f : z + suc z ≡ 2 * z + 1 = omega arith in
+    let (m, s, g) = sized w in
+    let i : m ≡ z = omega arith in
+    let j : size x - 1 ≡ z = omega arith in
+    ap₂ (λ (a b : ℕ). zeros a ++ inBits b x) j e
+    ∙ sym (zeros-lead z (suc z) (subst (λ (k : ℕ). x < 2 ^ suc k) i (g .high)))
+    ∙ ap (λ (k : ℕ). inBits k x) f
+
+shifted-small : (n e : ℕ) → n < 2 ^ 32 → n / 2 ^ e < 2 ^ 32
+shifted-small n e h = let p : n < 2 ^ (32 + e) = omega (arith, pow-mono {i = 32} {j = 32 + e} (omega arith)) in shr-lt 32 e p
+
+pub gamma-seen : (n z : ℕ) → 65536 ≤ n → n < 2 ^ 32 → z ≡ leadingZeros 32 n
+    → (z ≤ 15) × Word (n / 2 ^ (32 - (2 * z + 1))) × (gamma (n / 2 ^ (32 - (2 * z + 1))) ≡ inBits (2 * z + 1) (n / 2 ^ (32 - (2 * z + 1))))
+gamma-seen n z h f e =
+    let few = zeros-few n (omega arith) f 16 (omega arith) h in
+    let d : z + suc (z + (32 - (2 * z + 1))) ≡ 32 = omega arith in
+    let (a, b) = first-digits n (omega arith) f z z (32 - (2 * z + 1)) e d in
+    let (w, s) = size-of (n / 2 ^ (32 - (2 * z + 1))) z a b (shifted-small n (32 - (2 * z + 1)) f) in
+    (omega arith, w, gamma-whole (n / 2 ^ (32 - (2 * z + 1))) z w s)
+
+-- ---- Rice
+
+suc-pow : (z : ℕ) → z + 1 ≤ 2 ^ z
+suc-pow zero = omega arith
+suc-pow (suc z) = let h = suc-pow z in omega (arith, pow-add 2 z 1)
+
+-- a quotient and a remainder, within a word
+rice-word : (z k r : ℕ) → z + 1 + k ≤ 32 → r < 2 ^ k → Word (z * 2 ^ k + r + 1)
+rice-word z k r h l =
+    let a : (z + 1) * 2 ^ k ≤ 2 ^ z * 2 ^ k = mul-le-mul-right (2 ^ k) (suc-pow z) in
+    let b : 2 ^ z * 2 ^ k ≡ 2 ^ (z + k) = sym (pow-add 2 z k) in
+    let c = pow-mono {i = z + k} {j = 31} (omega arith) in
+    let d : (z + 1) * 2 ^ k ≡ z * 2 ^ k + 2 ^ k = add-mul z 1 (2 ^ k) ∙ ap (λ (x : ℕ). z * 2 ^ k + x) (one-mul (2 ^ k)) in
+    (omega arith, omega arith)
+
+rice-whole : (z k r : ℕ) → r < 2 ^ k → rice k (z * 2 ^ k + r + 1) ≡ inBits (z + 1 + k) (2 ^ k + r)
+unfolding rice inBits odd
+rice-whole z k r h =
+    let q : (z * 2 ^ k + r + 1 - 1) / 2 ^ k ≡ z = ap (λ (x : ℕ). x / 2 ^ k) (omega arith) ∙ high z k h in
+    let l : z * 2 ^ k + r + 1 - 1 - z * 2 ^ k ≡ r = omega arith in
+    let s : z + suc k ≡ z + 1 + k = omega arith in
+    let w : 2 ^ k + r < 2 ^ suc k = omega (arith, pow-add 2 k 1) in
+    let o : 1 * 2 ^ k + r ≡ 2 ^ k + r = ap (λ (x : ℕ). x + r) (one-mul (2 ^ k)) in
+    let one : 1 + k ≡ suc k = omega arith in
+    ap (λ (x : ℕ). zeros x ++ true ∷ inBits k (z * 2 ^ k + r + 1 - 1 - x * 2 ^ k)) q
+    ∙ ap (λ (x : ℕ). zeros z ++ true ∷ inBits k x) l
+    ∙ ap (λ (x : List Bool). zeros z ++ x) (sym (inBits-cat 1 k 1 h) ∙ ap₂ (λ (a b : ℕ). inBits a b) one o)
+    ∙ sym (zeros-lead z (suc k) w)
+    ∙ ap (λ (x : ℕ). inBits x (2 ^ k + r)) s
+
+rice-parts : (n z k : ℕ) → 0 < n → n < 2 ^ 32 → z ≡ leadingZeros 32 n → z + 1 + k ≤ 32
+    → (2 ^ k ≤ n / 2 ^ (32 - (z + 1 + k))) × Word (z * 2 ^ k + (n / 2 ^ (32 - (z + 1 + k)) - 2 ^ k) + 1)
+    × (rice k (z * 2 ^ k + (n / 2 ^ (32 - (z + 1 + k)) - 2 ^ k) + 1) ≡ inBits (z + 1 + k) (n / 2 ^ (32 - (z + 1 + k))))
+rice-parts n z k h f e l =
+    let d : z + suc (k + (32 - (z + 1 + k))) ≡ 32 = omega arith in
+    let (a, b) = first-digits n h f z k (32 - (z + 1 + k)) e d in
+    let x : ℕ = n / 2 ^ (32 - (z + 1 + k)) in
+    let r : x - 2 ^ k < 2 ^ k = omega (arith, pow-add 2 k 1) in
+    let y : 2 ^ k + (x - 2 ^ k) ≡ x = omega arith in
+    (a, rice-word z k (x - 2 ^ k) l r, rice-whole z k (x - 2 ^ k) r ∙ ap (inBits (z + 1 + k)) y)
+
+-- with the power of two as it was computed
+pub rice-seen : (n z k one : ℕ) → one ≡ 2 ^ k → 0 < n → n < 2 ^ 32 → z ≡ leadingZeros 32 n → z + 1 + k ≤ 32
+    → (one ≤ n / 2 ^ (32 - (z + 1 + k))) × Word (z * one + (n / 2 ^ (32 - (z + 1 + k)) - one) + 1)
+    × (rice k (z * one + (n / 2 ^ (32 - (z + 1 + k)) - one) + 1) ≡ inBits (z + 1 + k) (n / 2 ^ (32 - (z + 1 + k))))
+rice-seen n z k one p h f e l =
+    subst
+    (λ (o : ℕ). (o ≤ n / 2 ^ (32 - (z + 1 + k))) × Word (z * o + (n / 2 ^ (32 - (z + 1 + k)) - o) + 1) × (rice k (z * o + (n / 2 ^ (32 - (z + 1 + k)) - o) + 1) ≡ inBits (z + 1 + k) (n / 2 ^ (32 - (z + 1 + k)))))
+    (sym p) (rice-parts n z k h f e l)
+
+-- ---- variable-byte
+
+pub group-seen : (n : ℕ) → 0 < n / 2 ^ 24 → n / 2 ^ 24 ≤ 127 → Word (n / 2 ^ 24) × (variableByte (n / 2 ^ 24) ≡ inBits 8 (n / 2 ^ 24))
+unfolding variableByte groups
+group-seen n h l =
+    let g : ℕ = n / 2 ^ 24 in
+    let w : Word g = (h, omega arith) in
+    let (m, e, d) = grouped-word w in
+    let z : m ≡ 0 = held-one {b = 128} (omega arith) d (record { low = h; high = omega arith }) in (
+      w,
+      ap (λ (k : ℕ). groups k g) (e ∙ ap suc z)
+          ∙ ap (λ (x : List Bool). false ∷ x) (append-nil (inBits 7 (g / 1)) ∙ ap (inBits 7) (div-one g))
+          ∙ sym (zeros-lead 1 7 (omega arith)),
+    )
+
+-- ---- delta
+
+pub length-seen : (n z : ℕ) → 268435456 ≤ n → n < 2 ^ 32 → z ≡ leadingZeros 32 n
+    → (z ≤ 3) × (1 ≤ n / 2 ^ (31 - 2 * z)) × (n / 2 ^ (31 - 2 * z) ≤ 15) × (gamma (n / 2 ^ (31 - 2 * z)) ≡ inBits (2 * z + 1) (n / 2 ^ (31 - 2 * z)))
+length-seen n z h f e =
+    let few = zeros-few n (omega arith) f 28 (omega arith) h in
+    let d : z + suc (z + (31 - 2 * z)) ≡ 32 = omega arith in
+    let (a, b) = first-digits n (omega arith) f z z (31 - 2 * z) e d in
+    let (w, s) = size-of (n / 2 ^ (31 - 2 * z)) z a b (shifted-small n (31 - 2 * z) f) in
+    let m = pow-mono {i = suc z} {j = 4} (omega arith) in
+    (omega arith, w .0, omega arith, gamma-whole (n / 2 ^ (31 - 2 * z)) z w s)
+
+pub delta-seen : (n z l w : ℕ) → z ≤ 3 → l ≡ n / 2 ^ (31 - 2 * z) → 1 ≤ l → l ≤ 15 → gamma l ≡ inBits (2 * z + 1) l → w ≡ n / 2 ^ (32 - (2 * z + 1 + l)) % 2 ^ l → 2 ^ (l - 1) ≤ w
+    → Word w × (delta w ≡ inBits (2 * z + 1 + l) (n / 2 ^ (32 - (2 * z + 1 + l))))
+unfolding delta binary
+delta-seen n z l w a e p q g d h =
+    let y : ℕ = n / 2 ^ (32 - (2 * z + 1 + l)) in
+    let j : suc (l - 1) ≡ l = omega arith in
+    let b : w < 2 ^ l = subst (λ (x : ℕ). x < 2 ^ l) (sym d) (mod-lt y (pow-pos l)) in
+    let m = pow-mono {i = l} {j = 32} (omega arith) in
+    let (k, s) = size-of w (l - 1) h (subst (λ (x : ℕ). w < 2 ^ x) (sym j) b) (omega arith) in
+    let t : 32 - (2 * z + 1 + l) + l ≡ 31 - 2 * z = omega arith in
+    let u : y / 2 ^ l ≡ l = shr-shr n (32 - (2 * z + 1 + l)) l ∙ ap (λ (x : ℕ). n / 2 ^ x) t ∙ sym e in (
+      k,
+      ap (λ (x : ℕ). gamma x ++ inBits x w) (s ∙ j)
+          ∙ ap₂ (λ (x v : List Bool). x ++ v) (g ∙ ap (inBits (2 * z + 1)) (sym u)) (ap (inBits l) d ∙ inBits-mod l y)
+          ∙ sym (inBits-split (2 * z + 1) l y),
+    )
+
+-- ---- a word that was seen stands at the cursor
+
+module _ {image : ℕ → List Bool} (s : List ℕ) (c : Cursor) (h : Within c (length s)) (n q : ℕ) (room : 32 ≤ c .stop .0 - c .at .0) (look : n ≡ val (take 32 (drop (c .at .0) (bitsOf s)))) where
+  pub glimpsed-taken : Glimpsed image n q → (q ≡ 0 → ⊥) → (q / 64 ≤ 4294967295) × (q % 64 ≤ 32) × Taken (word Word image) s c (q / 64) (onward c (q % 64))
+  glimpsed-taken (unsettled e) k = absurd (k e)
+  glimpsed-taken (seen w bits v l i e) k =
+      let a : q / 64 ≡ w = omega arith in
+      let b : q % 64 ≡ bits = omega arith in
+      let z : bits + (32 - bits) ≡ 32 = omega arith in
+      let f : left c s ≡ inBits 32 n ++ drop 32 (left c s) =
+      front-is 32 (left c s) (omega (arith, length-left s c h)) ∙ ap (λ (m : ℕ). inBits 32 m ++ drop 32 (left c s)) (sym (look ∙ ap val (sym (left-front s c h 32 room)))) in
+      let g : inBits 32 n ≡ inBits bits (n / 2 ^ (32 - bits)) ++ inBits (32 - bits) n = ap (λ (m : ℕ). inBits m n) (sym z) ∙ inBits-split bits (32 - bits) n in
+      let rest : List Bool = inBits (32 - bits) n ++ drop 32 (left c s) in
+      let whole : left c s ≡ image w ++ rest =
+      f ∙ ap (λ (x : List Bool). x ++ drop 32 (left c s)) (g ∙ ap (λ (x : List Bool). x ++ inBits (32 - bits) n) (sym i)) ∙ append-assoc (image w) (inBits (32 - bits) n) (drop 32 (left c s)) in
+      let long : length (image w) ≡ bits = ap length i ∙ length-inBits bits (n / 2 ^ (32 - bits)) in
+      let after : left (onward c bits) s ≡ rest = left-onward s c h bits ∙ ap (drop bits) whole ∙ drop-at (image w) rest bits long in
+      let t : Taken (word Word image) s c w (onward c bits) =
+      record { takes = record { valid = v; front = whole ∙ ap (λ (x : List Bool). image w ++ x) (sym after) }; within = onward-within s c h bits (omega arith); stop = refl } in
+      (omega (arith, v .1), omega arith, subst₂ (λ (x y : ℕ). Taken (word Word image) s c x (onward c y)) (sym a) (sym b) t)

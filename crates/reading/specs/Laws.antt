@@ -1,0 +1,6 @@
+-- What follows from the definitions. Nothing here has to be believed: it is proved.
+pub mod Refusals
+pub mod Steps
+pub mod Reached
+pub mod Words
+pub mod Judging

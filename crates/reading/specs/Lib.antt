@@ -1,0 +1,4 @@
+pub mod Refusals
+pub mod Reached
+pub mod Judging
+pub mod Laws

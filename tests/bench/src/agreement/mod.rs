@@ -1,0 +1,20 @@
+//! The check before the timing: what does not do the same is not compared.
+
+mod reading;
+mod writing;
+
+/// So many values make a record short enough to be cut and damaged at every bit.
+const SHORT: usize = 12;
+
+pub fn check(headings: &[[u32; 3]], lists: &[Vec<u32>]) -> Result<(), String> {
+    for &heading in headings {
+        writing::on_refusals(heading, &lists[0])?;
+        reading::on_refusals(heading, &lists[0])?;
+        reading::on_short_record(heading, &lists[0][..SHORT])?;
+        for list in lists {
+            writing::on_record(heading, list)?;
+            reading::on_record(heading, list)?;
+        }
+    }
+    Ok(())
+}
