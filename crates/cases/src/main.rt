@@ -211,6 +211,6 @@ fn main() {
     readings::signed();
     found::places();
     found::corrections();
-    found::sought();
+    found::instants();
     checked::many_values();
 }

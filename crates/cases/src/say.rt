@@ -69,6 +69,24 @@ fn spaced(n: u64) {
     io::print_decimal(1, n);
 }
 
+// A name and a number within a line.
+pub(crate) fn part(name: &[u8], n: u64) {
+    text(name);
+    spaced(n);
+}
+
+// Between which bits a record is read.
+pub(crate) fn span(start: usize, stop: usize) {
+    part(b" from", start as u64);
+    part(b" to", stop as u64);
+}
+
+// The same, and the kind that is asked for.
+pub(crate) fn asked(start: usize, stop: usize, kind: u32) {
+    span(start, stop);
+    part(b", kind", kind as u64);
+}
+
 // A record's code, kind, parameter and count. Its values follow on the same line.
 pub(crate) fn heading(h: Heading, count: usize) {
     let code = h.code;
