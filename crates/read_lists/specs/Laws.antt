@@ -5,3 +5,4 @@ pub mod Signs
 pub mod Told
 pub mod Reading
 pub mod Lists
+pub mod Through

@@ -14,6 +14,7 @@ ghost use Rattle.lists.specs.Judged.{unsignedKind};
 ghost use Rattle.headings.specs.Bodies.{imageBy, Known};
 ghost use Rattle.reading.specs.Judging.{ToldJudged, Holds, Filled};
 ghost use Rattle.read_lists.specs.Told.{ToldValue};
+ghost use Rattle.read_lists.specs.Through.{Put, GoneThrough};
 use bits::BitPos;
 use bits::Cursor;
 use headings::bodies::Words;
@@ -92,8 +93,18 @@ fn counted(less: usize, x: u32, sought: u32) -> usize
     if x < sought { less + 1 } else { less }
 }
 
-// The n values, judged one after the other.
-pub fn judge(
+// A value in its place of a lent list, where the list has the place.
+fn put(list: &mut [u32], i: usize, x: u32)
+    ensures { λ _. ⌜ Put (now (list .entry)) i x (now (list .exit)) ⌝ }
+{
+    if i < list.len() {
+        list[i] = x;
+    }
+}
+
+// The n values, judged one after the other, and put in front of a lent list that has room for them. Judging and filling are one loop, so that
+// the compiler takes `next` into it.
+fn go_through(
     start: Cursor,
     s: &[u8],
     code: Words,
@@ -101,9 +112,10 @@ pub fn judge(
     n: usize,
     place: usize,
     sought: u32,
+    list: &mut [u32],
 ) -> Judged
     requires { ⌜ Within start (length (now s)) × Known code × (n ≤ longestList) ⌝ }
-    ensures { λ r. ⌜ ToldJudged (wordsBy (imageBy code) (unsignedKind instants) n) place sought (now (s .entry)) start r ⌝ }
+    ensures { λ r. ⌜ GoneThrough (wordsBy (imageBy code) (unsignedKind instants) n) n place sought (now (s .entry)) start (now (list .entry)) (now (list .exit)) r ⌝ }
 {
     let mut c = start;
     let mut before = 0;
@@ -115,6 +127,7 @@ pub fn judge(
             Value::Is(x, d) => {
                 v = kept(v, i, place, x);
                 less = counted(less, x, sought);
+                put(list, i, x);
                 before = x;
                 c = d;
                 i += 1;
@@ -127,6 +140,23 @@ pub fn judge(
     Judged::Whole(v, less, c)
 }
 
+// The n values, judged without a list.
+pub fn judge(
+    start: Cursor,
+    s: &[u8],
+    code: Words,
+    instants: bool,
+    n: usize,
+    place: usize,
+    sought: u32,
+) -> Judged
+    requires { ⌜ Within start (length (now s)) × Known code × (n ≤ longestList) ⌝ }
+    ensures { λ r. ⌜ ToldJudged (wordsBy (imageBy code) (unsignedKind instants) n) place sought (now (s .entry)) start r ⌝ }
+{
+    let mut none = [0u32; 0];
+    go_through(start, s, code, instants, n, place, sought, &mut none)
+}
+
 // The n values of a list that has been judged, put in front of a lent one.
 pub fn fill(
     start: Cursor,
@@ -136,25 +166,12 @@ pub fn fill(
     n: usize,
     list: &mut [u32],
 ) -> Cursor
-    requires { ⌜ Within start (length (now s)) × Known code × (n ≤ length (now list)) ⌝ }
+    requires { ⌜ Within start (length (now s)) × Known code × (n ≤ length (now list)) × (n ≤ longestList) ⌝ }
     requires judged { ⌜ Holds (wordsBy (imageBy code) (unsignedKind instants) n) (now s) start ⌝ }
     ensures { λ r. ⌜ Filled (wordsBy (imageBy code) (unsignedKind instants) n) (now (s .entry)) start (map pos (now (list .entry))) (map pos (now (list .exit))) r ⌝ }
 {
-    let mut c = start;
-    let mut before = 0;
-    let mut filled = 0;
-    while filled < n {
-        match next(c, s, code, instants, before) {
-            Value::Is(x, d) => {
-                list[filled] = x;
-                before = x;
-                c = d;
-                filled += 1;
-            }
-            Value::No(_, _) => {
-                return c;
-            }
-        }
+    match go_through(start, s, code, instants, n, 0, 0, list) {
+        Judged::Whole(_, _, d) => d,
+        Judged::No(_, _) => start,
     }
-    c
 }

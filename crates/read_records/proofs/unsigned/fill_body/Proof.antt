@@ -20,7 +20,7 @@ fill-requires c κs =
     let g = c .before .before .words .given in
     let t = was-words (c .before .before .before .before .body-of .ensures) (g .1) in
     let k = c .before .before .before .before .before .is-instants in
-    ((u .pre .0 .0, t .0, u .pre .0 .3), held-as (by-words (u .args .h) (u .args .n) (g .0 .0) (unsignedKind (k .result)) (t .1) (k .ensures (u .pre .0 .1 .family))) (u .pre .1))
+    ((u .pre .0 .0, t .0, u .pre .0 .3, u .pre .0 .2), held-as (by-words (u .args .h) (u .args .n) (g .0 .0) (unsignedKind (k .result)) (t .1) (k .ensures (u .pre .0 .1 .family))) (u .pre .1))
 
 enum-told : tie.Need-enum-told
 enum-told c = search needs
