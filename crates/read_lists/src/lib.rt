@@ -1,4 +1,4 @@
-// The body of a record that is read word by word: judged without a list, and filled into one.
+// The body of a record that is read word by word: judged without a list, and kept in an own one.
 ghost use Prim.Native.Nat.{_+_, _*_, _≤_};
 ghost use lib.ListN.{length, take, drop};
 ghost use Rattle.layout.specs.Bits.{bitsOf};

@@ -10,13 +10,15 @@ ghost use Rattle.layout.specs.Layout.{word};
 ghost use Rattle.format.specs.Codes.{Word};
 ghost use Rattle.bits.specs.Cursor.{Within, Taken};
 ghost use Rattle.headings.specs.Bodies.{imageBy, Known};
-ghost use Rattle.reading.specs.Judging.{ToldCorrections, Holds, Filled};
+ghost use Rattle.reading.specs.Judging.{ToldCorrections, ToldKept};
 ghost use Rattle.read_lists.specs.Told.{ToldCorrection};
+ghost use Rattle.read_lists.specs.Through.{Put, CorrectionsThrough};
 use bits::BitPos;
 use bits::Cursor;
 use headings::bodies::Words;
 use read_words::Read;
 use reading::JudgedCorrections;
+use reading::Kept;
 use reading::Refusal;
 
 // A correction formed of a word, or why it is none.
@@ -79,9 +81,26 @@ fn kept(old: i32, i: usize, place: usize, x: i32) -> i32
     if i == place { x } else { old }
 }
 
-pub fn judge(start: Cursor, s: &[u8], code: Words, n: usize, place: usize) -> JudgedCorrections
+// A correction in its place of a list, where the list has the place.
+fn put(list: &mut [i32], i: usize, x: i32)
+    ensures { λ _. ⌜ Put (now (list .entry)) i x (now (list .exit)) ⌝ }
+{
+    if i < list.len() {
+        list[i] = x;
+    }
+}
+
+// The n corrections, judged one after the other, and put in front of a list that has room for them.
+fn go_through(
+    start: Cursor,
+    s: &[u8],
+    code: Words,
+    n: usize,
+    place: usize,
+    list: &mut [i32],
+) -> JudgedCorrections
     requires { ⌜ Within start (length (now s)) × Known code × (n ≤ longestList) ⌝ }
-    ensures { λ r. ⌜ ToldCorrections (wordsBy (imageBy code) Corrections n) place (now (s .entry)) start r ⌝ }
+    ensures { λ r. ⌜ CorrectionsThrough (wordsBy (imageBy code) Corrections n) n place (now (s .entry)) start (now (list .entry)) (now (list .exit)) r ⌝ }
 {
     let mut c = start;
     let mut v = 0;
@@ -90,6 +109,7 @@ pub fn judge(start: Cursor, s: &[u8], code: Words, n: usize, place: usize) -> Ju
         match next(c, s, code) {
             Correction::Is(x, d) => {
                 v = kept(v, i, place, x);
+                put(list, i, x);
                 c = d;
                 i += 1;
             }
@@ -101,24 +121,22 @@ pub fn judge(start: Cursor, s: &[u8], code: Words, n: usize, place: usize) -> Ju
     JudgedCorrections::Whole(v, c)
 }
 
-pub fn fill(start: Cursor, s: &[u8], code: Words, n: usize, list: &mut [i32]) -> Cursor
-    requires { ⌜ Within start (length (now s)) × Known code × (n ≤ length (now list)) ⌝ }
-    requires judged { ⌜ Holds (wordsBy (imageBy code) Corrections n) (now s) start ⌝ }
-    ensures { λ r. ⌜ Filled (wordsBy (imageBy code) Corrections n) (now (s .entry)) start (now (list .entry)) (now (list .exit)) r ⌝ }
+// The n corrections, judged without a list.
+pub fn judge(start: Cursor, s: &[u8], code: Words, n: usize, place: usize) -> JudgedCorrections
+    requires { ⌜ Within start (length (now s)) × Known code × (n ≤ longestList) ⌝ }
+    ensures { λ r. ⌜ ToldCorrections (wordsBy (imageBy code) Corrections n) place (now (s .entry)) start r ⌝ }
 {
-    let mut c = start;
-    let mut filled = 0;
-    while filled < n {
-        match next(c, s, code) {
-            Correction::Is(x, d) => {
-                list[filled] = x;
-                c = d;
-                filled += 1;
-            }
-            Correction::No(_, _) => {
-                return c;
-            }
-        }
+    let mut none = [0i32; 0];
+    go_through(start, s, code, n, place, &mut none)
+}
+
+// The n corrections, put in front of an own list.
+pub fn keep(start: Cursor, s: &[u8], code: Words, n: usize, own: &mut [i32]) -> Kept
+    requires { ⌜ Within start (length (now s)) × Known code × (n ≤ length (now own)) × (n ≤ longestList) ⌝ }
+    ensures { λ r. ⌜ ToldKept (wordsBy (imageBy code) Corrections n) n (now (s .entry)) start (now (own .entry)) (now (own .exit)) r ⌝ }
+{
+    match go_through(start, s, code, n, 0, own) {
+        JudgedCorrections::Whole(_, d) => Kept::Whole(d),
+        JudgedCorrections::No(m, p) => Kept::No(m, p),
     }
-    c
 }

@@ -12,7 +12,7 @@ ghost use Rattle.format.specs.Codes.{Word};
 ghost use Rattle.bits.specs.Cursor.{Within, Taken};
 ghost use Rattle.lists.specs.Judged.{unsignedKind};
 ghost use Rattle.headings.specs.Bodies.{imageBy, Known};
-ghost use Rattle.reading.specs.Judging.{ToldJudged, Holds, Filled};
+ghost use Rattle.reading.specs.Judging.{ToldJudged, ToldKept};
 ghost use Rattle.read_lists.specs.Told.{ToldValue};
 ghost use Rattle.read_lists.specs.Through.{Put, GoneThrough};
 use bits::BitPos;
@@ -20,6 +20,7 @@ use bits::Cursor;
 use headings::bodies::Words;
 use read_words::Read;
 use reading::Judged;
+use reading::Kept;
 use reading::Refusal;
 
 // A value formed of a word, or why it is none.
@@ -93,7 +94,7 @@ fn counted(less: usize, x: u32, sought: u32) -> usize
     if x < sought { less + 1 } else { less }
 }
 
-// A value in its place of a lent list, where the list has the place.
+// A value in its place of a list, where the list has the place.
 fn put(list: &mut [u32], i: usize, x: u32)
     ensures { λ _. ⌜ Put (now (list .entry)) i x (now (list .exit)) ⌝ }
 {
@@ -102,7 +103,7 @@ fn put(list: &mut [u32], i: usize, x: u32)
     }
 }
 
-// The n values, judged one after the other, and put in front of a lent list that has room for them. Judging and filling are one loop, so that
+// The n values, judged one after the other, and put in front of a list that has room for them. Judging and keeping are one loop, so that
 // the compiler takes `next` into it.
 fn go_through(
     start: Cursor,
@@ -157,21 +158,13 @@ pub fn judge(
     go_through(start, s, code, instants, n, place, sought, &mut none)
 }
 
-// The n values of a list that has been judged, put in front of a lent one.
-pub fn fill(
-    start: Cursor,
-    s: &[u8],
-    code: Words,
-    instants: bool,
-    n: usize,
-    list: &mut [u32],
-) -> Cursor
-    requires { ⌜ Within start (length (now s)) × Known code × (n ≤ length (now list)) × (n ≤ longestList) ⌝ }
-    requires judged { ⌜ Holds (wordsBy (imageBy code) (unsignedKind instants) n) (now s) start ⌝ }
-    ensures { λ r. ⌜ Filled (wordsBy (imageBy code) (unsignedKind instants) n) (now (s .entry)) start (map pos (now (list .entry))) (map pos (now (list .exit))) r ⌝ }
+// The n values, put in front of an own list.
+pub fn keep(start: Cursor, s: &[u8], code: Words, instants: bool, n: usize, own: &mut [u32]) -> Kept
+    requires { ⌜ Within start (length (now s)) × Known code × (n ≤ length (now own)) × (n ≤ longestList) ⌝ }
+    ensures { λ r. ⌜ ToldKept (wordsBy (imageBy code) (unsignedKind instants) n) n (now (s .entry)) start (map pos (now (own .entry))) (map pos (now (own .exit))) r ⌝ }
 {
-    match go_through(start, s, code, instants, n, 0, 0, list) {
-        Judged::Whole(_, _, d) => d,
-        Judged::No(_, _) => start,
+    match go_through(start, s, code, instants, n, 0, 0, own) {
+        Judged::Whole(_, _, d) => Kept::Whole(d),
+        Judged::No(m, p) => Kept::No(m, p),
     }
 }

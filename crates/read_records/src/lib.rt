@@ -1,4 +1,4 @@
-// A whole record, or an end mark, read at a cursor: its body judged first, and only then filled into a lent list.
+// A whole record, or an end mark, read at a cursor: its body judged and kept, and only then copied into a lent list.
 use bits::BitPos;
 use bits::Cursor;
 use headings::Heading;

@@ -5,10 +5,10 @@ ghost use Rattle.format.specs.Limits.{longestList};
 ghost use Rattle.format.specs.Kinds.{Signed, Corrections};
 ghost use Rattle.format.specs.Reading.{LookUp, askedFor};
 ghost use Rattle.bits.specs.Cursor.{Within, left};
-ghost use Rattle.reading.specs.Judging.{ToldCorrections, Holds, Filled};
+ghost use Rattle.reading.specs.Judging.{ToldCorrections, ToldKept};
 ghost use Rattle.read_headings.specs.Told.{bodyOf};
 ghost use Rattle.read_records.specs.Bodies.{HeadingFor};
-ghost use Rattle.read_records.specs.Told.{ToldListed, ToldRead, lookedUpCorrection};
+ghost use Rattle.read_records.specs.Told.{Copied, ToldListed, ToldRead, lookedUpCorrection};
 use crate::LookedUpCorrection;
 use crate::Read;
 use bits::BitPos;
@@ -19,6 +19,7 @@ use headings::bodies::Body;
 use read_headings::Begun;
 use read_headings::Wanted;
 use reading::JudgedCorrections;
+use reading::Kept;
 use reading::Refusal;
 
 pub fn judge_body(c: Cursor, s: &[u8], h: Heading, n: usize, place: usize) -> JudgedCorrections
@@ -32,30 +33,55 @@ pub fn judge_body(c: Cursor, s: &[u8], h: Heading, n: usize, place: usize) -> Ju
     }
 }
 
-fn fill_body(c: Cursor, s: &[u8], h: Heading, n: usize, list: &mut [i32]) -> Cursor
-    requires { ⌜ Within c (length (now s)) × HeadingFor Signed h × (n ≤ length (now list)) ⌝ }
-    requires judged { ⌜ Holds (bodyOf h n) (now s) c ⌝ }
-    ensures { λ r. ⌜ Filled (bodyOf h n) (now (s .entry)) c (now (list .entry)) (now (list .exit)) r ⌝ }
+fn keep_body(c: Cursor, s: &[u8], h: Heading, n: usize, own: &mut [i32]) -> Kept
+    requires { ⌜ Within c (length (now s)) × HeadingFor Signed h × (n ≤ longestList) × (n ≤ length (now own)) ⌝ }
+    ensures { λ r. ⌜ ToldKept (bodyOf h n) n (now (s .entry)) c (now (own .entry)) (now (own .exit)) r ⌝ }
 {
     let code = h.code;
     match headings::bodies::body_of(code) {
-        Body::ByWords(words) => read_lists::signed::fill(c, s, words, n, list),
-        Body::ByHalves => c,
+        Body::ByWords(words) => read_lists::signed::keep(c, s, words, n, own),
+        Body::ByHalves => Kept::Whole(c),
     }
 }
 
-// The list after a heading: judged, and then filled in.
+// The first n corrections of an own list, put in front of a lent one.
+fn copy(own: &[i32], n: usize, list: &mut [i32])
+    requires { ⌜ (n ≤ length (now own)) × (n ≤ length (now list)) ⌝ }
+    ensures { λ _. ⌜ Copied n (now (own .entry)) (now (list .entry)) (now (list .exit)) ⌝ }
+{
+    let mut i = 0;
+    while i < n {
+        list[i] = own[i];
+        i += 1;
+    }
+}
+
+// The list after a heading, by way of an own list: only after the last correction is judged is the lent one touched.
+fn copied(c: Cursor, s: &[u8], h: Heading, n: usize, own: &mut [i32], list: &mut [i32]) -> Read
+    requires { ⌜ Within c (length (now s)) × HeadingFor Signed h × (n ≤ longestList) ⌝ }
+    requires room { ⌜ (n ≤ length (now own)) × (n ≤ length (now list)) ⌝ }
+    ensures { λ r. ⌜ ToldListed h n (now (s .entry)) c (now (list .entry)) (now (list .exit)) r ⌝ }
+{
+    match keep_body(c, s, h, n, own) {
+        Kept::Whole(d) => {
+            copy(own, n, list);
+            Read::Record(h, n, d.at())
+        }
+        Kept::No(m, p) => Read::Refused(m, p),
+    }
+}
+
+// The list after a heading. A short one has an own list that is as short, which costs less to clear.
 fn listed(c: Cursor, s: &[u8], h: Heading, n: usize, list: &mut [i32]) -> Read
     requires { ⌜ Within c (length (now s)) × HeadingFor Signed h × (n ≤ longestList) × (n ≤ length (now list)) ⌝ }
     ensures { λ r. ⌜ ToldListed h n (now (s .entry)) c (now (list .entry)) (now (list .exit)) r ⌝ }
 {
-    match judge_body(c, s, h, n, 0) {
-        JudgedCorrections::Whole(_, _) => {
-            let d = fill_body(c, s, h, n, list);
-            Read::Record(h, n, d.at())
-        }
-        JudgedCorrections::No(m, p) => Read::Refused(m, p),
+    if n <= 64 {
+        let mut few = [0i32; 64];
+        return copied(c, s, h, n, &mut few, list);
     }
+    let mut many = [0i32; 4096];
+    copied(c, s, h, n, &mut many, list)
 }
 
 pub fn read(c: Cursor, s: &[u8], list: &mut [i32]) -> Read

@@ -10,10 +10,10 @@ ghost use Rattle.format.specs.Reading.{LookUp, Search, askedFor};
 ghost use Rattle.format.specs.Kinds as Kinds;
 ghost use Rattle.bits.specs.Cursor.{Within, left};
 ghost use Rattle.headings.specs.Headings.{kindOf};
-ghost use Rattle.reading.specs.Judging.{ToldJudged, Holds, Filled};
+ghost use Rattle.reading.specs.Judging.{ToldJudged, ToldKept};
 ghost use Rattle.read_headings.specs.Told.{bodyOf};
 ghost use Rattle.read_records.specs.Bodies.{HeadingFor};
-ghost use Rattle.read_records.specs.Told.{ToldListed, ToldRead, ToldSeen, lookedUp, searched};
+ghost use Rattle.read_records.specs.Told.{Copied, ToldListed, ToldRead, ToldSeen, lookedUp, searched};
 use crate::LookedUp;
 use crate::Read;
 use crate::Searched;
@@ -26,6 +26,7 @@ use headings::bodies::Body;
 use read_headings::Begun;
 use read_headings::Wanted;
 use reading::Judged;
+use reading::Kept;
 use reading::Refusal;
 
 pub fn judge_body(c: Cursor, s: &[u8], h: Heading, n: usize, place: usize, sought: u32) -> Judged
@@ -49,32 +50,57 @@ pub fn judge_body(c: Cursor, s: &[u8], h: Heading, n: usize, place: usize, sough
     }
 }
 
-fn fill_body(c: Cursor, s: &[u8], h: Heading, n: usize, list: &mut [u32]) -> Cursor
-    requires { ⌜ Within c (length (now s)) × HeadingFor Unsigned h × (n ≤ longestList) × (n ≤ length (now list)) ⌝ }
-    requires judged { ⌜ Holds (bodyOf h n) (now s) c ⌝ }
-    ensures { λ r. ⌜ Filled (bodyOf h n) (now (s .entry)) c (map pos (now (list .entry))) (map pos (now (list .exit))) r ⌝ }
+fn keep_body(c: Cursor, s: &[u8], h: Heading, n: usize, own: &mut [u32]) -> Kept
+    requires { ⌜ Within c (length (now s)) × HeadingFor Unsigned h × (n ≤ longestList) × (n ≤ length (now own)) ⌝ }
+    ensures { λ r. ⌜ ToldKept (bodyOf h n) n (now (s .entry)) c (map pos (now (own .entry))) (map pos (now (own .exit))) r ⌝ }
 {
     let code = h.code;
     let kind = h.kind;
     let instants = headings::bodies::is_instants(kind);
     match headings::bodies::body_of(code) {
-        Body::ByWords(words) => read_lists::unsigned::fill(c, s, words, instants, n, list),
-        Body::ByHalves => fill_interpolative::fill(c, s, n, list),
+        Body::ByWords(words) => read_lists::unsigned::keep(c, s, words, instants, n, own),
+        Body::ByHalves => keep_interpolative::keep(c, s, n, own),
     }
 }
 
-// The list after a heading: judged, and then filled in.
+// The first n values of an own list, put in front of a lent one.
+fn copy(own: &[u32], n: usize, list: &mut [u32])
+    requires { ⌜ (n ≤ length (now own)) × (n ≤ length (now list)) ⌝ }
+    ensures { λ _. ⌜ Copied n (now (own .entry)) (now (list .entry)) (now (list .exit)) ⌝ }
+{
+    let mut i = 0;
+    while i < n {
+        list[i] = own[i];
+        i += 1;
+    }
+}
+
+// The list after a heading, by way of an own list: only after the last value is judged is the lent one touched.
+fn copied(c: Cursor, s: &[u8], h: Heading, n: usize, own: &mut [u32], list: &mut [u32]) -> Read
+    requires { ⌜ Within c (length (now s)) × HeadingFor Unsigned h × (n ≤ longestList) ⌝ }
+    requires room { ⌜ (n ≤ length (now own)) × (n ≤ length (now list)) ⌝ }
+    ensures { λ r. ⌜ ToldListed h n (now (s .entry)) c (map pos (now (list .entry))) (map pos (now (list .exit))) r ⌝ }
+{
+    match keep_body(c, s, h, n, own) {
+        Kept::Whole(d) => {
+            copy(own, n, list);
+            Read::Record(h, n, d.at())
+        }
+        Kept::No(m, p) => Read::Refused(m, p),
+    }
+}
+
+// The list after a heading. A short one has an own list that is as short, which costs less to clear.
 fn listed(c: Cursor, s: &[u8], h: Heading, n: usize, list: &mut [u32]) -> Read
     requires { ⌜ Within c (length (now s)) × HeadingFor Unsigned h × (n ≤ longestList) × (n ≤ length (now list)) ⌝ }
     ensures { λ r. ⌜ ToldListed h n (now (s .entry)) c (map pos (now (list .entry))) (map pos (now (list .exit))) r ⌝ }
 {
-    match judge_body(c, s, h, n, 0, 0) {
-        Judged::Whole(_, _, _) => {
-            let d = fill_body(c, s, h, n, list);
-            Read::Record(h, n, d.at())
-        }
-        Judged::No(m, p) => Read::Refused(m, p),
+    if n <= 64 {
+        let mut few = [0u32; 64];
+        return copied(c, s, h, n, &mut few, list);
     }
+    let mut many = [0u32; 4096];
+    copied(c, s, h, n, &mut many, list)
 }
 
 pub fn read(c: Cursor, s: &[u8], kind: Kind, list: &mut [u32]) -> Read

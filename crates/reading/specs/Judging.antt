@@ -1,4 +1,4 @@
--- What judging and filling a list come to, whatever its layout.
+-- What judging and keeping a list come to, whatever its layout.
 use mathlib.Core.Path.{_≡_}
 use mathlib.Core.List.{List, _++_, map}
 use Prim.Native.Nat.{ℕ}
@@ -15,6 +15,8 @@ use Rattle.reading.specs.declared.Judged.{Judged}
 use Rattle.reading.specs.declared.Judged.the-variants as OfJudged
 use Rattle.reading.specs.declared.JudgedCorrections.{JudgedCorrections}
 use Rattle.reading.specs.declared.JudgedCorrections.the-variants as OfCorrections
+use Rattle.reading.specs.declared.Kept.{Kept}
+use Rattle.reading.specs.declared.Kept.the-variants as OfKept
 
 -- a list stands at c: the value at a place and the number below a sought one are the list's own
 pub data ToldJudged (L : Layout (List ℤ)) (place sought : ℕ) (s : List ℕ) (c : Cursor) : Judged → Type 0 where
@@ -25,14 +27,7 @@ pub data ToldCorrections (L : Layout (List ℤ)) (place : ℕ) (s : List ℕ) (c
   whole : {v : ℤ} {d : Cursor} (vs : List ℤ) → Taken L s c vs d → v ≡ getD vs place (pos 0) → ToldCorrections L place s c (OfCorrections.Whole v d)
   no : {m : Refusal} {p : BitPos} → Refuses L s c (refusalNumber m) p → ToldCorrections L place s c (OfCorrections.No m p)
 
--- some value stands at c
-pub record Holds {A : Type 0} (L : Layout A) (s : List ℕ) (c : Cursor) : Type 0 where
-  pub of : A
-  pub end : Cursor
-  pub taken : Taken L s c of end
-
--- the list that stands at c, before d, has been put in front of a lent one, whose rest has stayed
-pub record Filled (L : Layout (List ℤ)) (s : List ℕ) (c : Cursor) (old new : List ℤ) (d : Cursor) : Type 0 where
-  pub values : List ℤ
-  pub taken : Taken L s c values d
-  pub list : new ≡ values ++ drop (length values) old
+-- the n values that stand at c have been put in front of an own list, whose rest has stayed; where they are refused, it may hold anything
+pub data ToldKept (L : Layout (List ℤ)) (n : ℕ) (s : List ℕ) (c : Cursor) (old new : List ℤ) : Kept → Type 0 where
+  whole : {d : Cursor} (vs : List ℤ) → Taken L s c vs d → length vs ≡ n → new ≡ vs ++ drop n old → ToldKept L n s c old new (OfKept.Whole d)
+  no : {m : Refusal} {p : BitPos} → Refuses L s c (refusalNumber m) p → ToldKept L n s c old new (OfKept.No m p)

@@ -4,3 +4,4 @@ pub mod Steps
 pub mod Reached
 pub mod Words
 pub mod Judging
+pub mod Naturals

@@ -30,6 +30,12 @@ pub enum JudgedCorrections {
     No(Refusal, BitPos),
 }
 
+// What reading a list into an own one answers: the cursor after it; or why it is none.
+pub enum Kept {
+    Whole(Cursor),
+    No(Refusal, BitPos),
+}
+
 // The answer's number in document 01.
 pub fn number(refusal: Refusal) -> u32
     ensures { λ r. ⌜ r ≡ refusalNumber refusal ⌝ }

@@ -9,8 +9,8 @@ use Rattle.bits.specs.declared.BitPos.{BitPos}
 use Rattle.read_words.specs.Laws.Told.{was-taken}
 use Rattle.reading.specs.Judging as Judging
 use Rattle.read_interpolative.specs.Parts.{cursor, total, isBelow, Sums}
-use Rattle.read_interpolative.specs.Laws.Body.{body-none, past-last}
-use Rattle.read_interpolative.specs.Laws.Judged.{judged-last-cut, judged-last-bad, judged-cut, judged-bad, judged-whole}
+use Rattle.read_interpolative.specs.Laws.Body.{body-none, past-last, others-cut, others-bad}
+use Rattle.read_interpolative.specs.Laws.Judged.{judged-last-cut, judged-last-bad, judged-whole}
 use native.Mathlib.Omega.{arith}
 use borrow.Author.Needs.{needs}
 use Rattle.read_interpolative.proofs.judge.Statement.{statement}
@@ -79,7 +79,7 @@ returns-2 c =
     let k : Taken (word Word delta) (a .s .now) (a .c) (g .0 .0) (g .0 .1 .0) = was-taken (c .before .before .before .before .before .before .before .before .before .before .before .read .ensures) (g .1) in
     let e : a .n ≡ suc (a .n - 1) = omega (arith, c .before .before .before .before .before .before .before .before .before .before .before .before .if1 .left) in
     let last = past-last (a .n) (a .n - 1) e (s .pre .0) k refl refl (c .before .before .before .before .bit2 .ensures ∙ ap (λ (p : BitPos). p .0) (c .before .before .before .before .before .at .ensures)) (c .before .before .before .before .before .before .bit .ensures ∙ ap (λ (p : BitPos). p .0) (c .before .before .before .before .before .before .before .stop .ensures)) in
-    judged-cut last (c .before .before .before .judge-part .ensures .0) (c .before .before .if2 .taken) (c .if3 .taken) (c .before .new .result) (c .before .new .ensures)
+    Judging.no (others-cut last (c .before .before .before .judge-part .ensures .0) (c .before .before .if2 .taken) (c .before .new .result) (c .before .new .ensures) (c .if3 .taken))
 
 returns-3 : tie.Need-returns-3
 returns-3 c =
@@ -89,7 +89,7 @@ returns-3 c =
     let k : Taken (word Word delta) (a .s .now) (a .c) (g .0 .0) (g .0 .1 .0) = was-taken (c .before .before .before .before .before .before .before .before .before .before .before .read .ensures) (g .1) in
     let e : a .n ≡ suc (a .n - 1) = omega (arith, c .before .before .before .before .before .before .before .before .before .before .before .before .if1 .left) in
     let last = past-last (a .n) (a .n - 1) e (s .pre .0) k refl refl (c .before .before .before .before .bit2 .ensures ∙ ap (λ (p : BitPos). p .0) (c .before .before .before .before .before .at .ensures)) (c .before .before .before .before .before .before .bit .ensures ∙ ap (λ (p : BitPos). p .0) (c .before .before .before .before .before .before .before .stop .ensures)) in
-    judged-bad last (c .before .before .before .judge-part .ensures .0) (c .before .before .if2 .taken) (c .if3 .left) (c .before .new .result) (c .before .new .ensures)
+    Judging.no (others-bad last (c .before .before .before .judge-part .ensures .0) (c .before .before .if2 .taken) (c .before .new .result) (c .before .new .ensures) (c .if3 .left))
 
 value-at-requires : tie.Need-value-at-requires
 value-at-requires c κs = search needs

@@ -1,7 +1,8 @@
 -- The whole body: the last instant in delta, then the elements before the last as one part.
 use mathlib.Core.Path.{_≡_, refl, sym, subst, subst₂}
+use mathlib.Core.Logic.{_⊎_, inl, inr}
 use mathlib.Core.List.{List, [], _∷_, _++_, map}
-use Prim.Native.Nat.{ℕ, suc, _+_, _-_}
+use Prim.Native.Nat.{ℕ, suc, _+_, _-_, _/_, _%_, _<_}
 use native.Mathlib.Omega.{arith}
 use lib.IntN.{pos}
 use lib.ListN.{length}
@@ -22,7 +23,8 @@ use Rattle.reading.specs.Reached.{Reached}
 use Rattle.reading.specs.Laws.Reached.{on, past, parts}
 use Rattle.reading.specs.Laws.Words.{word-cut, word-bad}
 use Rattle.reading.specs.Laws.Steps.{taken-made, taken-known}
-use Rattle.read_interpolative.specs.Parts.{instantsOf, cursor, LastRead}
+use Rattle.read_interpolative.specs.Parts.{instantsOf, cursor, ToldNext, LastRead}
+use Rattle.read_interpolative.specs.Laws.Next.{halted-at}
 
 -- ---- no instants
 
@@ -55,3 +57,22 @@ module _ (n d : ℕ) (e : n ≡ suc d) {s : List ℕ} {c : Cursor} (h : Within c
 
     pub last-bad : {q : BitPos} → r ≡ Bad q → Refuses (instantsOf n) s c 9 (c .at)
     last-bad f = no-last e (word-bad told h delta-free f)
+
+-- ---- the others, refused by one number beyond the stop
+
+module _ {n d t hi : ℕ} {s : List ℕ} {c : Cursor} {at stop : ℕ} (last : LastRead n d t hi s c at stop) where
+  pub stop-small : stop < 4294967296
+  stop-small = omega (arith, last .reached .within .inside, last .reached .within .small)
+
+  module _ {Good : List ℕ → Type 0} {next : ℕ} (others : ToldNext (part d 1 hi) Good s at stop next) (far : stop < next) (p : BitPos) (is : p .0 ≡ next % 4294967296) where
+    pub others-cut : next / 4294967296 ≡ 6 → Refuses (instantsOf n) s c 6 p
+    others-cut six =
+        let (which, r) = halted-at others far stop-small p is in
+        subst (λ (k : ℕ). Refuses (instantsOf n) s c k p) six (last .reached .no _ p r)
+
+    pub others-bad : (next / 4294967296 ≡ 6 → ⊥) → Refuses (instantsOf n) s c 9 p
+    others-bad not-six = let (which, r) = halted-at others far stop-small p is in nine which (last .reached .no _ p r)
+      where
+        nine : (next / 4294967296 ≡ 6) ⊎ (next / 4294967296 ≡ 9) → Refuses (instantsOf n) s c (next / 4294967296) p → Refuses (instantsOf n) s c 9 p
+        nine (inl e) r = absurd (not-six e)
+        nine (inr e) r = subst (λ (k : ℕ). Refuses (instantsOf n) s c k p) e r

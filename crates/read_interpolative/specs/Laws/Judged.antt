@@ -1,6 +1,5 @@
 -- The whole body judged: what is told of its last instant and of the others, as one answer.
 use mathlib.Core.Path.{_≡_, sym, ap, _∙_, subst, subst₂}
-use mathlib.Core.Logic.{_⊎_, inl, inr}
 use mathlib.Core.List.{List, [], _∷_, _++_, map}
 use Prim.Native.Nat.{ℕ, zero, suc, _+_, _/_, _%_, _≤_, _<_}
 use native.Mathlib.Omega.{arith}
@@ -24,9 +23,9 @@ use Rattle.reading.specs.Judging.{ToldJudged}
 use Rattle.reading.specs.declared.Refusal.the-variants.{CutShort, BadWord}
 use Rattle.reading.specs.declared.Judged.the-variants.{Whole, No}
 use Rattle.read_interpolative.specs.Parts.{instantsOf, cursor, total, atPlace, Sums, ToldPart, LastRead}
-use Rattle.read_interpolative.specs.Laws.Next.{went, halted-at}
+use Rattle.read_interpolative.specs.Laws.Next.{went}
 use Rattle.read_interpolative.specs.Laws.Sums.{sums-middle, sums-none, value-from, below-is}
-use Rattle.read_interpolative.specs.Laws.Body.{last-cut, last-bad}
+use Rattle.read_interpolative.specs.Laws.Body.{last-cut, last-bad, stop-small}
 
 -- ---- its last instant is refused
 
@@ -49,26 +48,11 @@ body-above : (n : ℕ) (ts : List ℕ) (place : ℕ) → instantsOf n .ok (map p
 body-above n ts place h = never-above 0 ts place (subst (NeverFalls 0) (naturals-back ts .1) (interpolative-never n (map natural (map pos ts)) (h .1) .1))
 
 module _ {n d t hi : ℕ} {s : List ℕ} {c : Cursor} {at stop : ℕ} (last : LastRead n d t hi s c at stop) where
-  small : stop < 4294967296
-  small = omega (arith, last .reached .within .inside, last .reached .within .small)
-
   module _ {place sought value less next : ℕ} (others : ToldPart place sought 0 d 1 hi value less s at stop next) where
-    pub judged-cut : stop < next → next / 4294967296 ≡ 6 → (p : BitPos) → p .0 ≡ next % 4294967296 → ToldJudged (instantsOf n) place sought s c (No CutShort p)
-    judged-cut far six p is =
-        let (which, r) = halted-at others far small p is in
-        Judging.no (subst (λ (k : ℕ). Refuses (instantsOf n) s c k p) six (last .reached .no _ p r))
-
-    pub judged-bad : stop < next → (next / 4294967296 ≡ 6 → ⊥) → (p : BitPos) → p .0 ≡ next % 4294967296 → ToldJudged (instantsOf n) place sought s c (No BadWord p)
-    judged-bad far not-six p is = let (which, r) = halted-at others far small p is in nine which (last .reached .no _ p r)
-      where
-        nine : (next / 4294967296 ≡ 6) ⊎ (next / 4294967296 ≡ 9) → Refuses (instantsOf n) s c (next / 4294967296) p → ToldJudged (instantsOf n) place sought s c (No BadWord p)
-        nine (inl e) r = absurd (not-six e)
-        nine (inr e) r = Judging.no (subst (λ (k : ℕ). Refuses (instantsOf n) s c k p) e r)
-
     pub judged-whole : next ≤ stop → {a b : ℕ} → Sums place sought d (replicate 1 t) a b → (end : Cursor) → end .at .0 ≡ next → end .stop .0 ≡ stop
         → ToldJudged (instantsOf n) place sought s c (Whole (value + a) (less + b) end) × (value + a ≤ largestInstant)
     judged-whole near {a} {b} own end end-at end-stop =
-        let (xs, sums, k) = went others near small in
+        let (xs, sums, k) = went others near (stop-small last) in
         let ts : List ℕ = sinking 1 xs ++ t ∷ [] in
         let l : length (sinking 1 xs) ≡ d = length-sinking 1 xs ∙ part-length d 1 hi xs (k .takes .valid) in
         let e : d ≡ 0 + d = omega arith in

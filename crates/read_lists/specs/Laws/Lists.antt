@@ -1,5 +1,5 @@
 -- What a loop over a list keeps, with one value more at the list's end.
-use mathlib.Core.Path.{_≡_, refl, sym, ap, _∙_}
+use mathlib.Core.Path.{_≡_, sym, ap, _∙_}
 use mathlib.Core.Bool.{Bool, true, false}
 use mathlib.Core.List.{List, [], _∷_, _++_, map, map-append, append-assoc}
 use Prim.Native.Nat.{ℕ, zero, suc, _+_, _-_, _≤_, _<_}
@@ -12,6 +12,7 @@ use lib.ListN.{length, getD, drop, set}
 use lib.Seq.{drop-cons, set-at}
 use Rattle.format.specs.Kinds.{natural}
 use Rattle.format.specs.Reading.{below}
+use Rattle.reading.specs.Laws.Naturals.{drop-naturals}
 
 -- ---- the value at a place, which is d until the place is reached
 
@@ -42,7 +43,7 @@ pub counted-more : (sought : ℕ) (ns : List ℕ) (x : ℕ) {less new : ℕ} →
 counted-more sought ns x e f =
     f ∙ ap (λ (k : ℕ). k + below sought (pos x ∷ [])) e ∙ sym (below-more sought (map pos ns) (pos x)) ∙ ap (below sought) (sym (map-append pos ns (x ∷ [])))
 
--- ---- a lent list, of which the first i values have been filled in
+-- ---- a list, of which the first i values have been put in
 
 pub stored-more : {A : Type 0} (d : A) (vs old : List A) {i : ℕ} (x : A) → length vs ≡ i → i < length old → set (vs ++ drop i old) i x ≡ (vs ++ x ∷ []) ++ drop (i + 1) old
 stored-more {A} d vs old {i} x e h =
@@ -51,14 +52,5 @@ stored-more {A} d vs old {i} x e h =
     ∙ ap (λ (k : ℕ). vs ++ x ∷ drop k old) (sym (add-one i))
     ∙ sym (append-assoc vs (x ∷ []) (drop (i + 1) old))
 
-naturals-drop : (i : ℕ) (ns : List ℕ) → map pos (drop i ns) ≡ drop i (map pos ns)
-naturals-drop zero ns = refl
-naturals-drop (suc i) [] = refl
-naturals-drop (suc i) (n ∷ ns) = naturals-drop i ns
-
-pub stored-naturals : (ns old : List ℕ) {i : ℕ} {new : List ℕ} → length (map pos ns) ≡ i → new ≡ ns ++ drop i old → map pos new ≡ map pos ns ++ drop (length (map pos ns)) (map pos old)
-stored-naturals ns old {i} e f =
-    ap (map pos) f
-    ∙ map-append pos ns (drop i old)
-    ∙ ap (λ (l : List ℤ). map pos ns ++ l) (naturals-drop i old)
-    ∙ ap (λ (k : ℕ). map pos ns ++ drop k (map pos old)) (sym e)
+pub stored-naturals : (ns old : List ℕ) (i : ℕ) {new : List ℕ} → new ≡ ns ++ drop i old → map pos new ≡ map pos ns ++ drop i (map pos old)
+stored-naturals ns old i f = ap (map pos) f ∙ map-append pos ns (drop i old) ∙ ap (λ (l : List ℤ). map pos ns ++ l) (drop-naturals i old)

@@ -1,22 +1,24 @@
--- What going through a list comes to for whoever judges or fills.
+-- What going through a list comes to for whoever judges or keeps.
 use mathlib.Core.Path.{_≡_, subst}
-use mathlib.Core.List.{List, _++_, map}
+use mathlib.Core.List.{List, map}
 use Prim.Native.Nat.{ℕ, _≤_}
 use native.Mathlib.Omega.{arith}
 use lib.IntN.{ℤ, pos}
-use lib.ListN.{length, drop}
+use lib.ListN.{length}
 use Rattle.layout.specs.Layout.{Layout}
-use Rattle.layout.specs.Laws.Sound.{Sound}
 use Rattle.bits.specs.declared.BitPos.{BitPos}
 use Rattle.bits.specs.declared.Cursor.{Cursor}
 use Rattle.reading.specs.Judging as Judging
-use Rattle.reading.specs.Judging.{ToldJudged, Holds, Filled}
-use Rattle.reading.specs.Laws.Steps.{no-taken}
+use Rattle.reading.specs.Judging.{ToldJudged, ToldCorrections, ToldKept}
+use Rattle.reading.specs.Laws.Judging.{was-no, were-no}
 use Rattle.reading.specs.declared.Refusal.{Refusal}
 use Rattle.reading.specs.declared.Judged.{Judged}
 use Rattle.reading.specs.declared.Judged.the-variants as OfJudged
+use Rattle.reading.specs.declared.JudgedCorrections.{JudgedCorrections}
+use Rattle.reading.specs.declared.JudgedCorrections.the-variants as OfCorrections
+use Rattle.reading.specs.declared.Kept.the-variants as OfKept
 use Rattle.read_lists.specs.Through as Through
-use Rattle.read_lists.specs.Through.{GoneThrough}
+use Rattle.read_lists.specs.Through.{GoneThrough, CorrectionsThrough}
 use Rattle.read_lists.specs.Laws.Lists.{stored-naturals}
 
 module _ {L : Layout (List ℤ)} {n place sought : ℕ} {s : List ℕ} {c : Cursor} {old new : List ℕ} where
@@ -24,12 +26,25 @@ module _ {L : Layout (List ℤ)} {n place sought : ℕ} {s : List ℕ} {c : Curs
   judged-through (Through.whole ns t a b e f) = Judging.whole ns t a b
   judged-through (Through.no k) = Judging.no k
 
-  pub filled-through : {r : Judged} {v less : ℕ} {d : Cursor} → n ≤ length old → GoneThrough L n place sought s c old new r → r ≡ OfJudged.Whole v less d → Filled L s c (map pos old) (map pos new) d
-  filled-through {d = d} h (Through.whole {d = e} ns t a b k f) q =
+  pub kept-through : {r : Judged} {v less : ℕ} {d : Cursor} → n ≤ length old → GoneThrough L n place sought s c old new r → r ≡ OfJudged.Whole v less d → ToldKept L n s c (map pos old) (map pos new) (OfKept.Whole d)
+  kept-through {d = d} h (Through.whole {d = e} ns t a b k f) q =
       let g : e ≡ d = cc in
-      subst (λ (x : Cursor). Filled L s c (map pos old) (map pos new) x) g (record { values = map pos ns; taken = t; list = stored-naturals ns old k (f h) })
-  filled-through h (Through.no k) q = let z : _≡_ {A = ℕ} 0 1 = cc in absurd (omega arith)
+      subst (λ (x : Cursor). ToldKept L n s c (map pos old) (map pos new) (OfKept.Whole x)) g (Judging.whole (map pos ns) t k (stored-naturals ns old n (f h)))
+  kept-through h (Through.no k) q = let z : _≡_ {A = ℕ} 0 1 = cc in absurd (omega arith)
 
-  pub not-refused : Sound L → {r : Judged} {m : Refusal} {p : BitPos} → GoneThrough L n place sought s c old new r → r ≡ OfJudged.No m p → Holds L s c → ⊥
-  not-refused l (Through.whole ns t a b k f) q h = let z : _≡_ {A = ℕ} 0 1 = cc in omega arith
-  not-refused l (Through.no k) q h = no-taken l k (h .taken)
+  pub not-kept-through : {r : Judged} {m : Refusal} {p : BitPos} → GoneThrough L n place sought s c old new r → r ≡ OfJudged.No m p → ToldKept L n s c (map pos old) (map pos new) (OfKept.No m p)
+  not-kept-through g q = Judging.no (was-no (judged-through g) q)
+
+module _ {L : Layout (List ℤ)} {n place : ℕ} {s : List ℕ} {c : Cursor} {old new : List ℤ} where
+  pub corrections-through : {r : JudgedCorrections} → CorrectionsThrough L n place s c old new r → ToldCorrections L place s c r
+  corrections-through (Through.whole vs t a e f) = Judging.whole vs t a
+  corrections-through (Through.no k) = Judging.no k
+
+  pub corrections-kept : {r : JudgedCorrections} {v : ℤ} {d : Cursor} → n ≤ length old → CorrectionsThrough L n place s c old new r → r ≡ OfCorrections.Whole v d → ToldKept L n s c old new (OfKept.Whole d)
+  corrections-kept {d = d} h (Through.whole {d = e} vs t a k f) q =
+      let g : e ≡ d = cc in
+      subst (λ (x : Cursor). ToldKept L n s c old new (OfKept.Whole x)) g (Judging.whole vs t k (f h))
+  corrections-kept h (Through.no k) q = let z : _≡_ {A = ℕ} 0 1 = cc in absurd (omega arith)
+
+  pub corrections-not-kept : {r : JudgedCorrections} {m : Refusal} {p : BitPos} → CorrectionsThrough L n place s c old new r → r ≡ OfCorrections.No m p → ToldKept L n s c old new (OfKept.No m p)
+  corrections-not-kept g q = Judging.no (were-no (corrections-through g) q)

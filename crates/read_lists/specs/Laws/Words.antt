@@ -2,21 +2,13 @@
 use mathlib.Core.Path.{_≡_, sym, subst, subst₂}
 use mathlib.Core.List.{List}
 use Prim.Native.Nat.{ℕ}
-use Rattle.layout.specs.Laws.Sound.{Sound}
 use Rattle.format.specs.Codes.{Word}
-use Rattle.format.specs.Kinds.{Kind}
-use Rattle.format.specs.Records.{wordsBy}
-use Rattle.format.specs.Laws.Bodies.{words-sound}
 use Rattle.bits.specs.declared.Cursor.{Cursor}
 use Rattle.read_words.specs.Glimpsed.{Glimpsed}
 use Rattle.read_words.specs.Told.{ToldWord}
 use Rattle.read_words.specs.declared.Read.{Read}
 use Rattle.headings.specs.Bodies.{imageBy}
-use Rattle.headings.specs.Laws.Bodies.{words-free}
 use Rattle.headings.specs.declared.bodies.Words.{Words}
-
-pub list-sound : (code : Words) (t : Kind) (n : ℕ) → Sound (wordsBy (imageBy code) t n)
-list-sound code t n = words-sound (imageBy code) (words-free code) t n
 
 -- what is told of a word of one code is told where the code was given as that one
 pub told-by : (code given : Words) → code ≡ given → {s : List ℕ} {c : Cursor} {r : Read} → ToldWord Word (imageBy given) s c r → ToldWord Word (imageBy code) s c r

@@ -1,15 +1,17 @@
 -- The body after a heading, by the way in which its code lays a list out.
-use mathlib.Core.Path.{_≡_, sym, ap, _∙_, subst}
-use mathlib.Core.List.{List}
-use Prim.Native.Nat.{ℕ}
+use mathlib.Core.Path.{_≡_, sym, ap, ap₂, _∙_, subst}
+use mathlib.Core.List.{List, _++_, map, map-append}
+use Prim.Native.Nat.{ℕ, _+_, _<_}
+use native.Mathlib.Numerals.{add-one}
 use native.Mathlib.Omega.{arith}
-use lib.IntN.{ℤ}
+use lib.IntN.{ℤ, pos}
+use lib.ListN.{length, getD, take, drop, set}
+use lib.Seq.{take-at, take-suc, length-take-le}
 use Rattle.layout.specs.Layout.{Layout}
 use Rattle.format.specs.Kinds as Kinds
 use Rattle.format.specs.Kinds.{Kind, kindNumber, Signed}
 use Rattle.format.specs.Records as Records
 use Rattle.format.specs.Records.{wordsBy, body}
-use Rattle.bits.specs.Cursor.{Taken}
 use Rattle.bits.specs.declared.BitPos.{BitPos}
 use Rattle.bits.specs.declared.Cursor.{Cursor}
 use Rattle.headings.specs.Headings.{codeOf, carried, kindOf}
@@ -19,13 +21,18 @@ use Rattle.headings.specs.declared.Code.{Code}
 use Rattle.headings.specs.declared.Code.the-variants.{Interpolative}
 use Rattle.headings.specs.declared.Heading.{Heading}
 use Rattle.headings.specs.declared.bodies.Words.{Words}
-use Rattle.reading.specs.Judging.{ToldJudged, ToldCorrections, Holds, Filled}
+use Rattle.reading.specs.Judging.{ToldJudged, ToldCorrections, ToldKept}
+use Rattle.reading.specs.Laws.Judging.{kept-whole}
+use Rattle.reading.specs.Laws.Naturals.{take-naturals, drop-naturals}
 use Rattle.reading.specs.declared.Judged.{Judged}
 use Rattle.reading.specs.declared.JudgedCorrections.{JudgedCorrections}
+use Rattle.reading.specs.declared.Kept.{Kept}
+use Rattle.reading.specs.declared.Kept.the-variants as OfKept
+use Rattle.read_lists.specs.Laws.Lists.{stored-more}
 use Rattle.read_headings.specs.Told.{bodyOf}
 use Rattle.read_records.specs.Bodies.{HeadingFor}
 use Rattle.read_records.specs.Told as Told
-use Rattle.read_records.specs.Told.{ToldListed}
+use Rattle.read_records.specs.Told.{ToldListed, Copied}
 use Rattle.read_records.specs.declared.Read.the-variants as OfRead
 
 -- ---- word by word, or by halves
@@ -54,16 +61,30 @@ module _ {L M : Layout (List ℤ)} (e : L ≡ M) {s : List ℕ} {c : Cursor} whe
   pub corrections-as : {place : ℕ} {r : JudgedCorrections} → ToldCorrections M place s c r → ToldCorrections L place s c r
   corrections-as {place} {r} h = subst (λ (N : Layout (List ℤ)). ToldCorrections N place s c r) (sym e) h
 
-  pub held-as : Holds L s c → Holds M s c
-  held-as h = subst (λ (N : Layout (List ℤ)). Holds N s c) e h
+  pub kept-as : {n : ℕ} {old new : List ℤ} {r : Kept} → ToldKept M n s c old new r → ToldKept L n s c old new r
+  kept-as {n} {old} {new} {r} h = subst (λ (N : Layout (List ℤ)). ToldKept N n s c old new r) (sym e) h
 
-  pub filled-as : {old new : List ℤ} {d : Cursor} → Filled M s c old new d → Filled L s c old new d
-  filled-as {old} {new} {d} f = subst (λ (N : Layout (List ℤ)). Filled N s c old new d) (sym e) f
+-- ---- kept, and then copied out
 
--- ---- judged, and then filled in
+-- one value more has been copied
+pub copied-more : {A : Type 0} (d : A) (own old : List A) (i : ℕ) → i < length own → i < length old → set (take i own ++ drop i old) i (getD own i d) ≡ take (i + 1) own ++ drop (i + 1) old
+copied-more {A} d own old i h k =
+    stored-more d (take i own) old (getD own i d) (length-take-le i own (omega arith)) k
+    ∙ ap (λ (l : List A). l ++ drop (i + 1) old) (sym (take-suc own i d h) ∙ ap (λ (k : ℕ). take k own) (sym (add-one i)))
 
-pub holds-taken : {L : Layout (List ℤ)} {s : List ℕ} {c d : Cursor} {vs : List ℤ} → Taken L s c vs d → Holds L s c
-holds-taken t = record { of = _; end = _; taken = t }
+pub copied-naturals : {n : ℕ} {own old new : List ℕ} → Copied n own old new → Copied n (map pos own) (map pos old) (map pos new)
+copied-naturals {n} {own} {old} c = record {
+  front =
+      ap (map pos) (c .front)
+      ∙ map-append pos (take n own) (drop n old)
+      ∙ ap₂ (λ (a b : List ℤ). a ++ b) (take-naturals n own) (drop-naturals n old);
+}
 
-pub listed-filled : {h : Heading} {n : ℕ} {s : List ℕ} {c d : Cursor} {old new : List ℤ} {p : BitPos} → Filled (bodyOf h n) s c old new d → p ≡ d .at → ToldListed h n s c old new (OfRead.Record h n p)
-listed-filled {h} {n} {s} {c} {d} {old} {new} f e = subst (λ (p : BitPos). ToldListed h n s c old new (OfRead.Record h n p)) (sym e) (Told.took (f .values) d (f .taken) (f .list))
+-- what was kept of a body, and copied in front of a lent list, is what was read of it
+pub listed-kept : {h : Heading} {n : ℕ} {s : List ℕ} {c d : Cursor} {own kept old new : List ℤ} {r : Kept} {p : BitPos}
+    → ToldKept (bodyOf h n) n s c own kept r → r ≡ OfKept.Whole d → Copied n kept old new → p ≡ d .at → ToldListed h n s c old new (OfRead.Record h n p)
+listed-kept {h} {n} {s} {c} {d} {own} {kept} {old} {new} k e f g =
+    let (vs, t, many, front) = kept-whole k e in
+    let first : take n kept ≡ vs = ap (take n) front ∙ take-at vs (drop n own) n many in
+    let list : new ≡ vs ++ drop (length vs) old = f .front ∙ ap₂ (λ (a : List ℤ) (m : ℕ). a ++ drop m old) first (sym many) in
+    subst (λ (p : BitPos). ToldListed h n s c old new (OfRead.Record h n p)) (sym g) (Told.took vs d t list)

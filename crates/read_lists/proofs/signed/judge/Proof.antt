@@ -1,97 +1,21 @@
-use mathlib.Core.Path.{_≡_, refl}
-use mathlib.Core.List.{List, [], _∷_, _++_}
-use Prim.Native.Nat.{_-_, _≤_}
-use lib.IntN.{ℤ, pos}
-use lib.ListN.{getD}
-use mir.Facts.{toZ-ofZ}
-use mir.Syntax.{w32}
-use mir.Val.{toZ}
-use Rattle.format.specs.Kinds.{Corrections}
-use Rattle.headings.specs.Bodies.{imageBy}
-use Rattle.reading.specs.Judging.{whole, no}
-use Rattle.read_lists.specs.Reading.{Reading}
-use Rattle.read_lists.specs.Laws.Signs.{correction-fits}
-use Rattle.read_lists.specs.Laws.Told.{correction-was, correction-was-none}
-use Rattle.read_lists.specs.Laws.Reading.{read-none, read-more, read-no, read-all}
-use Rattle.read_lists.specs.Laws.Lists.{kept-more}
-use borrow.Author.Needs.{needs, sfits-of}
+use Rattle.read_lists.specs.Laws.Through.{corrections-through}
 use native.Mathlib.Omega.{arith}
+use borrow.Author.Needs.{needs}
 use Rattle.read_lists.proofs.signed.judge.Statement.{statement}
 use Rattle.read_lists.proofs.signed.judge.Tie as tie
+use Rattle.read_lists.proofs.signed.judge.Reads as reads
+use Rattle.read_lists.proofs.signed.judge.Lts as lts
+use Rattle.read_lists.proofs.signed.go_through.Reads as go-through-reads
 
--- a signed local holds bits, which `toZ` reads
-abbrev Inv-loop : tie.InvT-loop
-Inv-loop s code n place c₀ v₀ i₀ c v i =
-    (i ≤ n)
-    × (before : ℤ)
-    × (vs : List ℤ)
-    × Reading (imageBy code) Corrections n s c₀ i before c vs
-    × (toZ w32 v ≡ getD vs place (pos 0))
+slice-aggregate-go-through : tie.Need-slice-aggregate-go-through
+slice-aggregate-go-through c = search needs
 
-abbrev μ-loop : tie.MeasureT-loop
-μ-loop s code n place c₀ v₀ i₀ c v i = n - i
+go-through-requires : tie.Need-go-through-requires
+go-through-requires c κs = search needs
 
-loop-holds : tie.Need-loop-holds Inv-loop μ-loop
-loop-holds c = (omega arith, pos 0, [], read-none (c .before .pre .0), refl)
-
-next-requires : tie.Need-next-requires Inv-loop μ-loop
-next-requires c κs = (c .before .loop .inv .3 .reached .within, c .before .before .before .pre .1)
-
-enum-known-x : tie.Need-enum-known-x Inv-loop μ-loop
-enum-known-x c = search needs
-
-kept-requires : tie.Need-kept-requires Inv-loop μ-loop
-kept-requires c κs = search needs
-
-add-i : tie.Need-add-i Inv-loop μ-loop
-add-i c = search needs
-
-loop-less : tie.Need-loop-less Inv-loop μ-loop
-loop-less c = search needs
-
-loop-again : tie.Need-loop-again Inv-loop μ-loop
-loop-again c =
-    let l = c .before .before .before .before .before .before .loop in
-    let g = c .before .before .x .given in
-    let t = correction-was (c .before .before .before .before .next .ensures) (g .1) (l .inv .1) in
-    let k = c .kept in
-    let vs = l .inv .2 in
-    let x = g .0 .0 in
-    let h = rw (toZ-ofZ (correction-fits x (t .takes .valid .0 .0))) at (k .ensures) in
-    rw (toZ-ofZ (sfits-of {w = w32} (k .ok))) (
-      omega arith,
-      x,
-      vs ++ x ∷ [],
-      read-more (l .inv .3) (omega arith) t,
-      kept-more (pos 0) vs (l .inv .3 .count) (h .0) (h .1) (l .inv .4),
-    )
-
-enum-known-m : tie.Need-enum-known-m Inv-loop μ-loop
-enum-known-m c = search needs
-
-returns : tie.Need-returns Inv-loop μ-loop
+returns : tie.Need-returns
 returns c =
-    let l = c .before .before .before .before .before .loop in
-    no (read-no (l .inv .3) (omega arith) (correction-was-none (c .before .before .before .next .ensures) (c .before .m .given .1) (l .inv .1)))
-
-returns-2 : tie.Need-returns-2 Inv-loop μ-loop
-returns-2 c =
-    let l = c .before .loop in
-    whole (l .inv .2) (read-all (l .inv .3) (omega arith)) (l .inv .4)
+    corrections-through (c .before .go-through .ensures)
 
 pub judge-spec : {M : Type 1} → statement M
-judge-spec =
-    tie.close
-    (tie.spec
-    Inv-loop
-    μ-loop
-    loop-holds
-    next-requires
-    enum-known-x
-    kept-requires
-    add-i
-    loop-less
-    loop-again
-    enum-known-m
-    returns
-    returns-2)
+judge-spec = tie.close (tie.spec slice-aggregate-go-through go-through-requires returns)

@@ -1,0 +1,97 @@
+// The body of code 5, judged and kept in an own list.
+ghost use mathlib.Core.Path.{_≡_};
+ghost use mathlib.Core.List.{map};
+ghost use Prim.Native.Nat.{_+_, _*_, _≤_, _<_};
+ghost use lib.IntN.{pos};
+ghost use lib.ListN.{length, set};
+ghost use Rattle.format.specs.Limits.{longestBuffer, longestList, largestInstant};
+ghost use Rattle.bits.specs.Cursor.{Within};
+ghost use Rattle.reading.specs.Judging.{ToldKept};
+ghost use Rattle.read_interpolative.specs.Parts.{instantsOf};
+ghost use Rattle.keep_interpolative.specs.Parts.{KeptPart};
+use bits::BitPos;
+use bits::Cursor;
+use read_interpolative::read_middle;
+use read_words::Read;
+use read_words::delta;
+use reading::Kept;
+use reading::Refusal;
+
+// Puts an instant into a list.
+fn store(list: &mut [u32], i: usize, t: u32)
+    requires { ⌜ i < length (now list) ⌝ }
+    ensures { λ _. ⌜ now (list .exit) ≡ set (now (list .entry)) i t ⌝ }
+{
+    list[i] = t;
+}
+
+// Keeps the instants of n elements between low and hi, from the place `start` on, and tells the bit after them; or beyond the stop a
+// refusal.
+fn keep_part(
+    s: &[u8],
+    at: usize,
+    stop: usize,
+    list: &mut [u32],
+    start: usize,
+    n: usize,
+    low: usize,
+    hi: usize,
+) -> usize
+    requires place { ⌜ (at ≤ stop) × (stop ≤ 8 * length (now s)) × (length (now s) ≤ longestBuffer) ⌝ }
+    requires room { ⌜ (start < low) × (low + n ≤ hi + 1) × (hi ≤ start + n + largestInstant) × (start + n ≤ length (now list)) × (start + n ≤ longestList) ⌝ }
+    ensures { λ r. ⌜ KeptPart start n low hi (now (list .entry)) (now (list .exit)) (now (s .entry)) at stop r ⌝ }
+{
+    if n == 0 {
+        return at;
+    }
+    let m = read_middle(s, at, stop, n, low, hi);
+    let after = m.next;
+    let element = m.element;
+    if stop < after {
+        return after;
+    }
+    let i = (n - 1) / 2;
+    store(list, start + i, (element - (start + i + 1)) as u32);
+    if n == 1 {
+        return after;
+    }
+    // those left of the middle end below it; those right of it begin above
+    let left_hi = element - 1;
+    let right_start = start + i + 1;
+    let j = n / 2;
+    let right_low = element + 1;
+    let next = keep_part(s, after, stop, list, start, i, low, left_hi);
+    if stop < next {
+        return next;
+    }
+    keep_part(s, next, stop, list, right_start, j, right_low, hi)
+}
+
+pub fn keep(c: Cursor, s: &[u8], n: usize, own: &mut [u32]) -> Kept
+    requires { ⌜ Within c (length (now s)) × (n ≤ longestList) × (n ≤ length (now own)) ⌝ }
+    ensures { λ r. ⌜ ToldKept (instantsOf n) n (now (s .entry)) c (map pos (now (own .entry))) (map pos (now (own .exit))) r ⌝ }
+{
+    if n == 0 {
+        return Kept::Whole(c);
+    }
+    let others = n - 1;
+    match delta::read(c, s) {
+        Read::Took(w, d) => {
+            let last = (w - 1) as usize;
+            let end = d.stop();
+            let stop = end.bit();
+            let next = keep_part(s, d.at().bit(), stop, own, 0, others, 1, last + others);
+            if stop < next {
+                let at = BitPos::new(next % 4294967296);
+                if next / 4294967296 == 6 {
+                    return Kept::No(Refusal::CutShort, at);
+                }
+                return Kept::No(Refusal::BadWord, at);
+            }
+            store(own, others, w - 1);
+            Kept::Whole(Cursor::new(BitPos::new(next), end))
+        }
+        Read::Cut => Kept::No(Refusal::CutShort, c.at()),
+        Read::Bad(_) => Kept::No(Refusal::BadWord, c.at()),
+    }
+}
