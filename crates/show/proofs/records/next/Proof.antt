@@ -1,0 +1,131 @@
+use mathlib.Core.Path.{_≡_, refl, subst}
+use mathlib.Core.List.{map}
+use Prim.Native.Nat.{_*_, _≤_}
+use lib.IntN.{pos}
+use lib.ListN.{length, length-map}
+use native.Mathlib.Omega.{arith}
+use borrow.Author.Needs.{needs}
+use Rattle.format.specs.Limits.{longestList}
+use Rattle.format.specs.Kinds.{Plain, Instants, Corrections, Unsigned, Signed}
+use Rattle.format.specs.Answers.{Told}
+use Rattle.lists.specs.Judged.{Unless}
+use Rattle.moortangle.specs.Reads.{ReadsInto}
+use Rattle.show.specs.Next.{OtherKind}
+use Rattle.show.specs.Laws.Next.{Ahead, settled, other, last-kind}
+use Rattle.show.proofs.records.next.Statement.{statement}
+use Rattle.show.proofs.records.next.Tie as tie
+
+-- ---- the three kinds asked for, and what is answered
+
+plain : Told Unsigned 0 Plain
+plain = record { number = refl; family = refl }
+
+instants : Told Unsigned 1 Instants
+instants = record { number = refl; family = refl }
+
+corrections : Told Signed 2 Corrections
+corrections = record { number = refl; family = refl }
+
+room : (r : tie.After-read) → longestList ≤ length (map pos (r .before .before .before .before .before .args .values .now))
+room r = simp length-map (r .before .before .before .before .before .pre .1)
+
+room-2 : (r : tie.After-read2) → longestList ≤ length (map pos (r .before .before .before .before .before .before .read .last .1 .1 .1 .1 .0))
+room-2 r =
+    let k = r .before .before .before .before .before .before .read .kept .1 .1 .1 .1 .0 in
+    let p = r .before .before .before .before .before .before .before .before .before .before .before .pre .1 in
+    simp length-map (omega (arith, k, p))
+
+first : (r : tie.After-read) → let s = r .before .before .before .before .before .args in
+    ReadsInto (s .s .now) (s .at .0) (8 * length (s .s .now)) Unsigned 0 (map pos (s .values .now)) (r .read .result) (map pos (r .read .last .1 .1 .1 .1 .0))
+first r = rw (r .before .before .new .ensures) at (r .read .ensures)
+
+second : (r : tie.After-read2) → let s = r .before .before .before .before .before .before .before .before .before .before .before .args in
+    ReadsInto (s .s .now) (s .at .0) (8 * length (s .s .now)) Unsigned 1 (map pos (r .before .before .before .before .before .before .read .last .1 .1 .1 .1 .0)) (r .read2 .result) (map pos (r .read2 .last .1 .1 .1 .1 .0))
+second r = rw (r .before .before .before .before .before .before .before .before .new .ensures) at (r .read2 .ensures)
+
+-- two 7s
+not-plain : (e : tie.Else1) → let s = e .before .before .before .before .before .before .before .before .before .args in
+    (a : Ahead (s .s .now) (s .at .0)) × (a .entry .kind ≡ Plain → ⊥)
+not-plain e =
+    let r = e .before .before .before .before in
+    other (r .before .before .before .before .before .pre .0) plain (room r) (r .read .result) (first r) (subst (Unless (OtherKind (r .read .result))) (e .if1 .left) (e .before .is-settled .ensures))
+
+not-instants : (e : tie.Else2) → let s = e .before .before .before .before .before .before .before .before .before .before .before .before .before .before .before .args in
+    (a : Ahead (s .s .now) (s .at .0)) × (a .entry .kind ≡ Instants → ⊥)
+not-instants e =
+    let r = e .before .before .before .before in
+    other (r .before .before .before .before .before .before .before .before .before .before .before .pre .0) instants (room-2 r) (r .read2 .result) (second r) (subst (Unless (OtherKind (r .read2 .result))) (e .if2 .left) (e .before .is-settled2 .ensures))
+
+-- ---- what is left by the borrow checker
+
+mul-new : tie.Need-mul-new
+mul-new c = search needs
+
+new-requires : tie.Need-new-requires
+new-requires c κs = search needs
+
+read-requires : tie.Need-read-requires
+read-requires c κs = search needs
+
+is-settled-requires : tie.Need-is-settled-requires
+is-settled-requires c κs = search needs
+
+same-length : tie.Need-same-length
+same-length c = search needs
+
+returns : tie.Need-returns
+returns c =
+    let r = c .before .before .before .before in
+    settled (r .before .before .before .before .before .pre .0) plain (room r) _ refl (r .read .result) (first r) (subst (Unless (OtherKind (r .read .result))) (c .if1 .taken) (c .before .is-settled .ensures))
+
+read-requires-2 : tie.Need-read-requires-2
+read-requires-2 c κs = search needs
+
+is-settled-requires-2 : tie.Need-is-settled-requires-2
+is-settled-requires-2 c κs = search needs
+
+same-length-2 : tie.Need-same-length-2
+same-length-2 c = search needs
+
+returns-2 : tie.Need-returns-2
+returns-2 c =
+    let r = c .before .before .before .before in
+    settled (r .before .before .before .before .before .before .before .before .before .before .before .pre .0) instants (room-2 r) _ refl (r .read2 .result) (second r) (subst (Unless (OtherKind (r .read2 .result))) (c .if2 .taken) (c .before .is-settled2 .ensures))
+
+read-corrections-requires : tie.Need-read-corrections-requires
+read-corrections-requires c κs = search needs
+
+same-length-3 : tie.Need-same-length-3
+same-length-3 c = search needs
+
+same-length-4 : tie.Need-same-length-4
+same-length-4 c = search needs
+
+returns-3 : tie.Need-returns-3
+returns-3 c =
+    let e = c .before .before .before in
+    let x = e .before .before .before .before .before .before .before .before .before .before .before .before .before .before .before in
+    let r = c .before .read-corrections in
+    let third : ReadsInto (x .args .s .now) (x .args .at .0) (8 * length (x .args .s .now)) Signed 2 (x .args .corrections .now) (r .result) (r .last .1 .1 .1 .1 .0) = rw (e .before .before .before .before .before .before .before .before .before .before .before .before .new .ensures) at (r .ensures) in
+    let (a, f) = not-plain (e .before .before .before .before .before .before) in
+    let (b, h) = not-instants e in
+    settled (x .pre .0) corrections (x .pre .2) _ refl (r .result) third (λ o. let (d, l) = other (x .pre .0) corrections (x .pre .2) (r .result) third o in last-kind a b d f h l)
+
+pub next-spec : {M : Type 1} → statement M
+next-spec =
+    tie.close
+    (tie.spec
+    mul-new
+    new-requires
+    read-requires
+    is-settled-requires
+    same-length
+    returns
+    read-requires-2
+    is-settled-requires-2
+    same-length-2
+    returns-2
+    read-corrections-requires
+    same-length-3
+    same-length-4
+    returns-3)
