@@ -3,6 +3,11 @@
 /// Bits in the order in which they stand in a buffer.
 pub type Bits = Vec<bool>;
 
+/// The bits of a text of 0 and 1, in which spaces may stand between the fields.
+pub fn of_text(text: &str) -> Bits {
+    text.chars().filter(|&sign| sign != ' ').map(|sign| sign == '1').collect()
+}
+
 /// A number in exactly `width` bits, highest first.
 pub fn in_width(number: u64, width: u32) -> Bits {
     (0..width).rev().map(|weight| (number >> weight) % 2 == 1).collect()

@@ -3,6 +3,7 @@
 pub mod fields;
 mod interpolative;
 mod item;
+pub mod printed;
 pub mod readers;
 pub mod words;
 

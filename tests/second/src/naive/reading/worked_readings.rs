@@ -3,26 +3,22 @@
 use super::fields::Refusal;
 use super::readers::{check, look_up, read, search, Read, Span, Totals};
 use super::words::first;
-use crate::naive::bits::{place, Bits};
+use crate::naive::bits::{of_text, place};
 use crate::naive::codes::{WordCode, LARGEST_WORD};
 use crate::naive::heading::{Code, Entry, Heading};
 use crate::naive::kinds::Kind;
 use crate::naive::record;
 
-fn bits(text: &str) -> Bits {
-    text.chars().filter(|&sign| sign != ' ').map(|sign| sign == '1').collect()
-}
-
 /// Bytes that hold these bits from bit 0 on and ones behind them, with the number of the bits as the stop.
 fn held(text: &str) -> (Vec<u8>, u64) {
-    let bits = bits(text);
+    let bits = of_text(text);
     let mut bytes = vec![0xFF; bits.len().div_ceil(8)];
     place(&mut bytes, 0, &bits);
     (bytes, bits.len() as u64)
 }
 
 fn word(code: WordCode, text: &str) -> Result<(u64, usize), u32> {
-    first(code, &bits(text))
+    first(code, &of_text(text))
 }
 
 fn refused<T>(answer: u32, told: u64) -> Result<T, Refusal> {
@@ -56,7 +52,7 @@ fn words() {
         (WordCode::VariableByte, 65_536, "10000100 10000000 00000000"),
     ];
     for (code, value, text) in words {
-        assert_eq!(word(code, text), Ok((value, bits(text).len())));
+        assert_eq!(word(code, text), Ok((value, of_text(text).len())));
     }
     let lengths =
         [(WordCode::Gamma, 63), (WordCode::Delta, 43), (WordCode::Rice(31), 33), (WordCode::VariableByte, 40)];
@@ -81,7 +77,7 @@ fn bad_and_cut_delta_words() {
     assert_eq!(word(WordCode::Delta, "00000100000"), Err(6));
     assert_eq!(word(WordCode::Delta, "000001000000"), Err(9));
     for digit in 6..11 {
-        let mut length = bits("00000100000");
+        let mut length = of_text("00000100000");
         length[digit] = true;
         assert_eq!(first(WordCode::Delta, &length[..=digit]), Err(9));
         assert_eq!(first(WordCode::Delta, &length[..digit]), Err(6));
