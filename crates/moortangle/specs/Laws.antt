@@ -7,3 +7,6 @@ pub mod Unique
 pub mod AsTheList
 pub mod Agree
 pub mod RoundTrip
+pub mod InTurn
+pub mod CutShort
+pub mod WrittenStreams

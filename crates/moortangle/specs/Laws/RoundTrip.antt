@@ -58,7 +58,7 @@ between bytes start stop p image rest h k e q =
     ∙ ap (take (length image)) e
     ∙ take-at image rest (length image) refl
 
-stands : (bytes : List ℕ) (start p : ℕ) (after : List ℕ) (r : Record) → start ≤ 8 * length bytes → WrittenBits bytes start r p after → window after start p ≡ anyRecord .bits r
+pub stands : (bytes : List ℕ) (start p : ℕ) (after : List ℕ) (r : Record) → start ≤ 8 * length bytes → WrittenBits bytes start r p after → window after start p ≡ anyRecord .bits r
 stands bytes start p after r h w =
     ap (λ (i : ℕ). window after start i) (w .told)
     ∙ ap (λ (l : List Bool). drop start (take (start + length (anyRecord .bits r)) l)) (w .left)
