@@ -1,11 +1,11 @@
 -- How the list after a heading is laid out.
 use mathlib.Core.Path.{_≡_}
-use mathlib.Core.Bool.{Bool}
+use mathlib.Core.Bool.{Bool, false}
 use mathlib.Core.List.{List}
 use Prim.Native.Nat.{ℕ, _≤_}
 use Rattle.format.specs.Limits.{largestParameter}
 use Rattle.format.specs.Codes.{gamma, delta, rice, variableByte}
-use Rattle.format.specs.Kinds.{Unsigned, familyOf}
+use Rattle.format.specs.Kinds.{Unsigned, Signed, familyOf}
 use Rattle.lists.specs.Judged.{unsignedKind}
 use Rattle.headings.specs.Headings.{kindOf}
 use Rattle.headings.specs.declared.Code.{Code}
@@ -45,3 +45,7 @@ pub data ToldBody (c : Code) : Body → Type 0 where
 -- of the kinds that are not signed, whether it is instants
 abbrev pub InstantsIf : Kind → Bool → Type 0
 InstantsIf t b = familyOf (kindOf t) ≡ Unsigned → kindOf t ≡ unsignedKind b
+
+-- and corrections are none
+abbrev pub NotIfSigned : Kind → Bool → Type 0
+NotIfSigned t b = familyOf (kindOf t) ≡ Signed → b ≡ false

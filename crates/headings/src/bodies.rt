@@ -2,7 +2,7 @@
 ghost use Prim.Native.Nat.{_≤_};
 ghost use Rattle.format.specs.Limits.{largestParameter};
 ghost use Rattle.headings.specs.Headings.{carried};
-ghost use Rattle.headings.specs.Bodies.{ToldBody, InstantsIf};
+ghost use Rattle.headings.specs.Bodies.{ToldBody, InstantsIf, NotIfSigned};
 use crate::Code;
 use crate::Kind;
 
@@ -35,6 +35,7 @@ pub fn body_of(code: Code) -> Body
 
 pub fn is_instants(kind: Kind) -> bool
     ensures { λ r. ⌜ InstantsIf kind r ⌝ }
+    ensures signed { λ r. ⌜ NotIfSigned kind r ⌝ }
 {
     match kind {
         Kind::Plain => false,

@@ -216,3 +216,10 @@ drawn-one {before = before} {after = after} {after′ = after′} {next = next} 
     let m : next .at .0 ≡ next′ .at .0 = x .told ∙ sym (y .told) in
     inked-one after after′ next next′ h l (x .within) (y .within) m (x .bits ∙ sym (y .bits))
     (x .rest ∙ subst (λ (n : ℕ). drop (firstOf n) (bitsOf before) ≡ drop (firstOf n) (bitsOf after′)) (sym m) (sym (y .rest)))
+
+pub opened-one : {s : List ℕ} {at : BitPos} {p q : Pen} → Bytes s → Opened s at p → Opened s at q → p ≡ q
+opened-one {s} {at} {p} {q} h x y = inked-one s s p q h h (x .within) (y .within) (x .told ∙ sym (y .told)) (x .bits ∙ sym (y .bits)) refl .1
+
+-- of what closes, and of what writes a field
+pub bits-one : {after after′ : List ℕ} {l : List Bool} → Bytes after → Bytes after′ → bitsOf after ≡ l → bitsOf after′ ≡ l → after ≡ after′
+bits-one {after} {after′} h k e f = bytes-one after after′ h k (e ∙ sym f)

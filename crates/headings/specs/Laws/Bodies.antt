@@ -11,7 +11,7 @@ use Rattle.format.specs.Kinds.{Signed, familyOf}
 use Rattle.format.specs.Records.{wordsBy, body}
 use Rattle.format.specs.Laws.Codes.{gamma-free, delta-free, rice-free, variable-byte-free}
 use Rattle.headings.specs.Headings.{codeOf, carried}
-use Rattle.headings.specs.Bodies.{imageBy, Known, codeFor, ToldBody, words, halves, InstantsIf}
+use Rattle.headings.specs.Bodies.{imageBy, Known, codeFor, ToldBody, words, halves, InstantsIf, NotIfSigned}
 use Rattle.headings.specs.declared.Code.{Code}
 use Rattle.headings.specs.declared.Code.the-variants as OfCode
 use Rattle.headings.specs.declared.Kind.{Kind}
@@ -65,6 +65,9 @@ plain-kind t e = instants-as false t Plain e (λ _. refl)
 
 pub instants-kind : (t : Kind) → t ≡ Instants → InstantsIf t true
 instants-kind t e = instants-as true t Instants e (λ _. refl)
+
+pub instants-unsigned : (t : Kind) → t ≡ Instants → NotIfSigned t true
+instants-unsigned t e = subst (λ (x : Kind). NotIfSigned x true) (sym e) (λ h. let z : _≡_ {A = ℕ} 0 1 = cc h in absurd (omega arith))
 
 pub corrections-kind : (t : Kind) → t ≡ Corrections → InstantsIf t false
 corrections-kind t e = instants-as false t Corrections e (λ h. let z : _≡_ {A = ℕ} 0 1 = cc h in absurd (omega arith))

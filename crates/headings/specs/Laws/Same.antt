@@ -1,13 +1,17 @@
--- A heading is known by what it means, and a number means one code or kind at most.
+-- A heading is known by what it means, and two answers that are told of what a caller asks for are equal.
 use mathlib.Core.Path.{_≡_, refl, sym, ap, ap₂, _∙_}
+use mathlib.Core.Bool.{Bool, true, false}
 use Prim.Native.Nat.{ℕ, _≤_}
 use native.Mathlib.Omega.{arith}
 use Rattle.format.specs.Limits.{largestParameter}
 use Rattle.format.specs.Kinds as Kinds
+use Rattle.format.specs.Kinds.{Family}
 use Rattle.format.specs.Records as Records
 use Rattle.format.specs.Writing.{parameterOf}
 use Rattle.format.specs.Laws.Kinds as OfKinds
 use Rattle.format.specs.Laws.Records as OfRecords
+use Rattle.format.specs.Laws.Reading.{told-one}
+use Rattle.lists.specs.Judged.{unsignedKind}
 use Rattle.headings.specs.declared.Code.{Code}
 use Rattle.headings.specs.declared.Code.the-variants.{Gamma, Delta, Rice, VariableByte, Interpolative}
 use Rattle.headings.specs.declared.Kind.{Kind}
@@ -17,8 +21,16 @@ use Rattle.headings.specs.declared.CodeChoice.{CodeChoice}
 use Rattle.headings.specs.declared.CodeChoice.the-variants as OfCode
 use Rattle.headings.specs.declared.KindChoice.{KindChoice}
 use Rattle.headings.specs.declared.KindChoice.the-variants as OfKind
+use Rattle.headings.specs.declared.Choice.{Choice}
+use Rattle.headings.specs.declared.Choice.the-variants as OfHeading
+use Rattle.headings.specs.declared.bodies.Words.{Words}
+use Rattle.headings.specs.declared.bodies.Words.the-variants as OfWords
+use Rattle.headings.specs.declared.bodies.Body.{Body}
+use Rattle.headings.specs.declared.bodies.Body.the-variants.{ByWords, ByHalves}
+use Rattle.headings.specs.Bodies as Bodies
+use Rattle.headings.specs.Bodies.{codeFor, ToldBody, InstantsIf, NotIfSigned}
 use Rattle.headings.specs.Headings as Headings
-use Rattle.headings.specs.Headings.{codeOf, carried, kindOf, CodeIs, ToldCode, ToldNumber}
+use Rattle.headings.specs.Headings.{codeOf, carried, kindOf, CodeIs, ToldCode, ToldKind, ToldNumber, Chooses}
 
 codeFrom : Records.Code → ℕ → Code
 codeFrom Records.Gamma k = Gamma
@@ -78,3 +90,55 @@ number-same (Headings.is {t = t} e) (Headings.is {t = u} f) = ap OfKind.Is (kind
 number-same (Headings.is {t = t} e) (Headings.unknown p) = absurd (p (kindOf t) e)
 number-same (Headings.unknown p) (Headings.is {t = t} e) = absurd (p (kindOf t) e)
 number-same (Headings.unknown p) (Headings.unknown o) = refl
+
+-- also where it must be one of a family
+pub kind-same : {f : Family} {kind : ℕ} {r q : KindChoice} → ToldKind f kind r → ToldKind f kind q → r ≡ q
+kind-same (Headings.is {t = t} e) (Headings.is {t = u} f) = ap OfKind.Is (kind-one t u (told-one e f))
+kind-same (Headings.is {t = t} e) (Headings.unknown p) = absurd (p (kindOf t) e)
+kind-same (Headings.unknown p) (Headings.is {t = t} e) = absurd (p (kindOf t) e)
+kind-same (Headings.unknown p) (Headings.unknown o) = refl
+
+-- two answers of which heading a caller chooses are equal
+pub choice-same : {f : Family} {code parameter kind : ℕ} {r q : Choice} → Chooses f code parameter kind r → Chooses f code parameter kind q → r ≡ q
+choice-same {parameter = parameter} (Headings.is {h = h} x) (Headings.is {h = g} y) =
+    let e : codeOf (h .code) ≡ codeOf (g .code) = OfRecords.code-one (codeOf (h .code)) (codeOf (g .code)) (x .chosen .number ∙ sym (y .chosen .number)) in
+    ap OfHeading.Is (heading-one h g e (sym (x .carries) ∙ ap (λ (c : Records.Code). parameterOf c parameter) e ∙ y .carries) (told-one (x .chosen .told) (y .chosen .told)))
+choice-same (Headings.is {h = h} x) (Headings.unknown p) = absurd (p (codeOf (h .code)) (kindOf (h .kind)) (x .chosen))
+choice-same (Headings.unknown p) (Headings.is {h = h} x) = absurd (p (codeOf (h .code)) (kindOf (h .kind)) (x .chosen))
+choice-same (Headings.unknown p) (Headings.unknown o) = refl
+
+-- ---- how the list after it is laid out
+
+bodyFrom : Code → Body
+bodyFrom Gamma = ByWords OfWords.Gamma
+bodyFrom Delta = ByWords OfWords.Delta
+bodyFrom (Rice k) = ByWords (OfWords.Rice k)
+bodyFrom VariableByte = ByWords OfWords.VariableByte
+bodyFrom Interpolative = ByHalves
+
+words-back : (w : Words) → bodyFrom (codeFor w) ≡ ByWords w
+unfolding bodyFrom
+words-back OfWords.Gamma = refl
+words-back OfWords.Delta = refl
+words-back (OfWords.Rice k) = refl
+words-back OfWords.VariableByte = refl
+
+body-back : {c : Code} {b : Body} → ToldBody c b → bodyFrom c ≡ b
+unfolding bodyFrom
+body-back (Bodies.words {w = w} k e) = ap bodyFrom e ∙ words-back w
+body-back (Bodies.halves e) = ap bodyFrom e
+
+pub body-same : {c : Code} {b d : Body} → ToldBody c b → ToldBody c d → b ≡ d
+body-same x y = sym (body-back x) ∙ body-back y
+
+-- whether a kind is instants
+unsigned-one : (a b : Bool) → unsignedKind a ≡ unsignedKind b → a ≡ b
+unsigned-one true true e = refl
+unsigned-one true false e = let z : _≡_ {A = ℕ} 0 1 = cc in absurd (omega arith)
+unsigned-one false true e = let z : _≡_ {A = ℕ} 0 1 = cc in absurd (omega arith)
+unsigned-one false false e = refl
+
+pub instants-same : (t : Kind) (a b : Bool) → InstantsIf t a → NotIfSigned t a → InstantsIf t b → NotIfSigned t b → a ≡ b
+instants-same Plain a b x k y l = unsigned-one a b (sym (x refl) ∙ y refl)
+instants-same Instants a b x k y l = unsigned-one a b (sym (x refl) ∙ y refl)
+instants-same Corrections a b x k y l = k refl ∙ sym (l refl)

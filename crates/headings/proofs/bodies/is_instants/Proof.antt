@@ -1,4 +1,4 @@
-use Rattle.headings.specs.Laws.Bodies.{plain-kind, instants-kind, corrections-kind}
+use Rattle.headings.specs.Laws.Bodies.{plain-kind, instants-kind, instants-unsigned, corrections-kind}
 use borrow.Author.Needs.{needs}
 use Rattle.headings.proofs.bodies.is_instants.Statement.{statement}
 use Rattle.headings.proofs.bodies.is_instants.Tie as tie
@@ -16,7 +16,7 @@ returns : tie.Need-returns
 returns c = search (needs, plain-kind)
 
 returns-2 : tie.Need-returns-2
-returns-2 c = search (needs, instants-kind)
+returns-2 c = search (needs, instants-kind, instants-unsigned)
 
 returns-3 : tie.Need-returns-3
 returns-3 c = search (needs, corrections-kind)

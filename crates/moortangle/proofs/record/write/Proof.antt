@@ -53,7 +53,7 @@ put-requires c κs =
     let a = e .before .before .before .before .before .args in
     let h = was-chosen (c .before .before .before .before .before .before .before .before .before .choose .ensures) (c .before .before .before .before .before .before .before .h .given .1) in
     let k = c .before .before .before .before .is-instants in
-    let t = k .ensures (h .chosen .told .family) in
+    let t = k .ensures .0 (h .chosen .told .family) in
     let n : length (map pos (a .values .now)) ≤ 4096 = rw (length-map (a .values .now) pos) (c .before .before .before .before .before .if3 .left) in
     let l = was-fine (c .before .before .before .judge .ensures) (c .before .enum-told .given .1) in
     (valid-for h (map pos (a .values .now)) (unsignedKind (k .result)) n t l, place e .inside, place e .small)
@@ -82,7 +82,7 @@ returns-4 c =
     let a = e .before .before .before .before .before .args in
     let h = was-chosen (c .before .before .before .before .before .before .before .before .before .before .before .before .before .before .before .choose .ensures) (c .before .before .before .before .before .before .before .before .before .before .before .before .before .h .given .1) in
     let k = c .before .before .before .before .before .before .before .before .before .before .is-instants in
-    let t = k .ensures (h .chosen .told .family) in
+    let t = k .ensures .0 (h .chosen .told .family) in
     let n : length (map pos (a .values .now)) ≤ 4096 = rw (length-map (a .values .now) pos) (c .before .before .before .before .before .before .before .before .before .before .before .if3 .left) in
     let l = was-fine (c .before .before .before .before .before .before .before .before .before .judge .ensures) (c .before .before .before .before .before .before .before .enum-told .given .1) in
     let g = c .before .next .given in
@@ -97,7 +97,7 @@ returns-5 c =
     let a = e .before .before .before .before .before .args in
     let h = was-chosen (c .before .before .before .before .before .before .before .before .before .before .before .before .before .before .choose .ensures) (c .before .before .before .before .before .before .before .before .before .before .before .before .h .given .1) in
     let k = c .before .before .before .before .before .before .before .before .before .is-instants in
-    let t = k .ensures (h .chosen .told .family) in
+    let t = k .ensures .0 (h .chosen .told .family) in
     let n : length (map pos (a .values .now)) ≤ 4096 = rw (length-map (a .values .now) pos) (c .before .before .before .before .before .before .before .before .before .before .if3 .left) in
     let l = was-fine (c .before .before .before .before .before .before .before .before .judge .ensures) (c .before .before .before .before .before .before .enum-told .given .1) in
     put-there h (a .buf .now) (a .start .0) (map pos (a .values .now)) (place e) (unsignedKind (k .result)) n t l (put-as Full (c .before .before .before .before .put .ensures) (c .enum-told2 .given .1))
@@ -108,7 +108,7 @@ returns-6 c =
     let a = e .before .before .before .before .before .args in
     let h = was-chosen (c .before .before .before .before .before .before .before .before .before .choose .ensures) (c .before .before .before .before .before .before .before .h .given .1) in
     let k = c .before .before .before .before .is-instants in
-    let t = k .ensures (h .chosen .told .family) in
+    let t = k .ensures .0 (h .chosen .told .family) in
     let n : length (map pos (a .values .now)) ≤ 4096 = rw (length-map (a .values .now) pos) (c .before .before .before .before .before .if3 .left) in
     at-fault h (a .buf .now) (a .start .0) (map pos (a .values .now)) (place e) (unsignedKind (k .result)) n t (was-range (c .before .before .before .judge .ensures) (c .before .i .given .1))
 
@@ -118,7 +118,7 @@ returns-7 c =
     let a = e .before .before .before .before .before .args in
     let h = was-chosen (c .before .before .before .before .before .before .before .before .before .choose .ensures) (c .before .before .before .before .before .before .before .h .given .1) in
     let k = c .before .before .before .before .is-instants in
-    let t = k .ensures (h .chosen .told .family) in
+    let t = k .ensures .0 (h .chosen .told .family) in
     let n : length (map pos (a .values .now)) ≤ 4096 = rw (length-map (a .values .now) pos) (c .before .before .before .before .before .if3 .left) in
     at-fault h (a .buf .now) (a .start .0) (map pos (a .values .now)) (place e) (unsignedKind (k .result)) n t (was-falls (c .before .before .before .judge .ensures) (c .before .i2 .given .1))
 

@@ -33,7 +33,7 @@ returns c =
     let g = c .before .before .words .given in
     let t = was-words (c .before .before .before .before .body-of .ensures) (g .1) in
     let k = c .before .before .before .before .before .is-instants in
-    judged-as (by-words (u .args .h) (u .args .n) (g .0 .0) (unsignedKind (k .result)) (t .1) (k .ensures (u .pre .1 .family))) (c .judge .ensures)
+    judged-as (by-words (u .args .h) (u .args .n) (g .0 .0) (unsignedKind (k .result)) (t .1) (k .ensures .0 (u .pre .1 .family))) (c .judge .ensures)
 
 returns-2 : tie.Need-returns-2
 returns-2 c =

@@ -36,7 +36,7 @@ returns c =
     let g = c .before .before .before .before .before .words .given in
     let t = was-words (c .before .before .before .before .before .before .before .body-of .ensures) (g .1) in
     let k = c .before .before .before .before .before .before .before .before .is-instants in
-    kept-as (by-words (u .args .h) (u .args .n) (g .0 .0) (unsignedKind (k .result)) (t .1) (k .ensures (u .pre .1 .family))) (c .before .before .keep .ensures)
+    kept-as (by-words (u .args .h) (u .args .n) (g .0 .0) (unsignedKind (k .result)) (t .1) (k .ensures .0 (u .pre .1 .family))) (c .before .before .keep .ensures)
 
 same-length-2 : tie.Need-same-length-2
 same-length-2 c = search needs

@@ -28,7 +28,7 @@ count-requires c κs =
     let vs = map pos (a .values .now) in
     let t = was-words (c .before .before .before .body-of .ensures) (c .before .words .given .1) in
     let k = c .before .before .before .before .is-instants in
-    (t .0, words-list (a .h) vs (unsignedKind (k .result)) (u .pre .valid) (k .ensures (u .pre .family)), omega (arith, u .pre .valid .count, length-map (a .values .now) pos))
+    (t .0, words-list (a .h) vs (unsignedKind (k .result)) (u .pre .valid) (k .ensures .0 (u .pre .family)), omega (arith, u .pre .valid .count, length-map (a .values .now) pos))
 
 enum-told : tie.Need-enum-told
 enum-told c = search needs
@@ -48,7 +48,7 @@ returns c =
     let g = c .before .before .words .given in
     let t = was-words (c .before .before .before .before .body-of .ensures) (g .1) in
     let k = c .before .before .before .before .before .is-instants in
-    (c .count .ensures .0 ∙ ap length (sym (words-image (a .h) vs (g .0 .0) (unsignedKind (k .result)) (t .1) (k .ensures (u .pre .family)))), omega arith)
+    (c .count .ensures .0 ∙ ap length (sym (words-image (a .h) vs (g .0 .0) (unsignedKind (k .result)) (t .1) (k .ensures .0 (u .pre .family)))), omega arith)
 
 returns-2 : tie.Need-returns-2
 returns-2 c =

@@ -30,7 +30,7 @@ write-requires c κs =
     let g = c .before .before .words .given in
     let t = was-words (c .before .before .before .before .body-of .ensures) (g .1) in
     let k = c .before .before .before .before .before .is-instants in
-    let e = k .ensures (u .pre .0 .family) in
+    let e = k .ensures .0 (u .pre .0 .family) in
     let l = words-image (a .h) vs (g .0 .0) (unsignedKind (k .result)) (t .1) e in
     ((t .0, words-list (a .h) vs (unsignedKind (k .result)) (u .pre .0 .valid) e), room-as l (u .pre .1))
 
@@ -56,7 +56,7 @@ returns c =
     let g = c .before .before .before .before .before .words .given in
     let t = was-words (c .before .before .before .before .before .before .before .body-of .ensures) (g .1) in
     let k = c .before .before .before .before .before .before .before .before .is-instants in
-    drawn-as (sym (words-image (a .h) vs (g .0 .0) (unsignedKind (k .result)) (t .1) (k .ensures (u .pre .0 .family)))) (c .before .before .write .ensures)
+    drawn-as (sym (words-image (a .h) vs (g .0 .0) (unsignedKind (k .result)) (t .1) (k .ensures .0 (u .pre .0 .family)))) (c .before .before .write .ensures)
 
 same-length-2 : tie.Need-same-length-2
 same-length-2 c = search needs
