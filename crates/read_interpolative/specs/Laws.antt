@@ -6,3 +6,4 @@ pub mod Instants
 pub mod Sums
 pub mod Body
 pub mod Judged
+pub mod Same

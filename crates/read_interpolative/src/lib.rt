@@ -27,6 +27,7 @@ pub fn read_middle(s: &[u8], at: usize, stop: usize, n: usize, low: usize, hi: u
     requires room { ⌜ (1 ≤ n) × (low + n ≤ hi + 1) × (hi < low + n + largestWord) × (n ≤ longestList) × (hi ≤ 2 ^ 33) ⌝ }
     ensures { λ r. ⌜ ToldMiddle n low hi (r .element) (now (s .entry)) at stop (r .next) ⌝ }
     ensures bounds { λ r. ⌜ (low + (n - 1) / 2 ≤ r .element) × (r .element + n / 2 ≤ hi) ⌝ }
+    ensures refused { λ r. ⌜ (stop < r .next → r .element ≡ low + (n - 1) / 2) ⌝ }
 {
     let possible = hi + 2 - (low + n);
     let first = low + (n - 1) / 2;

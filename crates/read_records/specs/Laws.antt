@@ -3,3 +3,4 @@ pub mod Reading
 pub mod Streams
 pub mod Answers
 pub mod Bodies
+pub mod Same

@@ -5,3 +5,4 @@ pub mod Reached
 pub mod Words
 pub mod Judging
 pub mod Naturals
+pub mod Same

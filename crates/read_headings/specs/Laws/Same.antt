@@ -3,7 +3,6 @@ use mathlib.Core.Path.{_≡_, ap, _∙_}
 use mathlib.Core.Bool.{Bool}
 use mathlib.Core.List.{List, append-assoc}
 use Prim.Native.Nat.{ℕ}
-use native.Mathlib.Omega.{arith}
 use lib.ListN.{length}
 use Rattle.layout.specs.Layout.{Takes}
 use Rattle.layout.specs.Laws.Sound.{Sound, fixed-sound, known-sound, bind-sound, only-sound}
@@ -13,16 +12,14 @@ use Rattle.format.specs.Records.{Asked, codeField}
 use Rattle.format.specs.Reading.{NoEnd}
 use Rattle.format.specs.Laws.Kinds.{kind-one}
 use Rattle.format.specs.Laws.Records.{code-one, parameter-sound, count-sound}
-use Rattle.bits.specs.Cursor.{Within, left, to}
-use Rattle.bits.specs.declared.BitPos.{BitPos}
+use Rattle.bits.specs.Cursor.{Within}
 use Rattle.bits.specs.declared.Cursor.{Cursor}
 use Rattle.headings.specs.Laws.Same.{heading-one}
 use Rattle.headings.specs.declared.Heading.{Heading}
-use Rattle.reading.specs.Laws.Refusals.{refusal-same}
-use Rattle.reading.specs.Laws.Steps.{no-taken, taken-one, told-at}
-use Rattle.reading.specs.declared.Refusal.{Refusal}
+use Rattle.reading.specs.Laws.Steps.{no-taken, taken-one}
+use Rattle.reading.specs.Laws.Same.{refused-one}
 use Rattle.read_headings.specs.Told as Told
-use Rattle.read_headings.specs.Told.{Ended, headingFor, Headed, Refused, ToldHeading}
+use Rattle.read_headings.specs.Told.{Ended, headingFor, Headed, ToldHeading}
 use Rattle.read_headings.specs.Laws.Fields.{ended-zero, code-no-end}
 use Rattle.read_headings.specs.declared.Begun.{Begun}
 use Rattle.read_headings.specs.declared.Begun.the-variants as OfBegun
@@ -52,17 +49,6 @@ module _ {q : Asked} {s : List ℕ} {c : Cursor} where
       let j : n ≡ m = ap (λ (z : _). z .1 .1 .1 .0) v in
       cc
 
-  refused-one : {m n : Refusal} {p o : BitPos} → Within c (length s) → Refused q s c m p → Refused q s c n o → OfBegun.No m p ≡ OfBegun.No n o
-  refused-one {m} {n} {p} {o} w t u =
-      let (e, f) = heading-sound q .sole (t .heading .no) (u .heading .no) in
-      let i : m ≡ n = refusal-same m n e in
-      let a = told-at s c p w (t .heading .upto) in
-      let b = told-at s c o w (u .heading .upto) in
-      let l : length (left (to c p) s) ≡ length (left (to c o) s) = ap length f in
-      let j : p .0 ≡ o .0 = omega arith in
-      let k : p ≡ o = ap (λ (z : ℕ). record { 0 = z }) j in
-      cc
-
   -- one answer, cursor and bit included
   pub heading-same : {r t : Begun} → Within c (length s) → ToldHeading q s c r → ToldHeading q s c t → r ≡ t
   heading-same w (Told.begins t) (Told.begins u) = headed-one t u
@@ -73,4 +59,4 @@ module _ {q : Asked} {s : List ℕ} {c : Cursor} where
   heading-same w (Told.ends t) (Told.no u) = absurd (u .mark _ (t .mark))
   heading-same w (Told.no t) (Told.begins u) = absurd (no-taken (heading-sound q) (t .heading) (u .taken))
   heading-same w (Told.no t) (Told.ends u) = absurd (t .mark _ (u .mark))
-  heading-same w (Told.no t) (Told.no u) = refused-one w t u
+  heading-same w (Told.no t) (Told.no u) = let (e, f) = refused-one (heading-sound q) w (t .heading) (u .heading) in λ i. OfBegun.No (e i) (f i)

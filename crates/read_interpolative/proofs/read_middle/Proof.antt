@@ -45,7 +45,7 @@ returns c =
     let s = l .before .before in
     let a = s .args in
     let w = lies (a .s .now) (a .at) (a .stop) (s .pre .0) in
-    (offset-cut (a .low + (a .n - 1) / 2) (a .hi + 2 - (a .low + a .n)) (l .length .result) w (l .length .ensures .0) (omega arith), (omega arith, omega arith))
+    (offset-cut (a .low + (a .n - 1) / 2) (a .hi + 2 - (a .low + a .n)) (l .length .result) w (l .length .ensures .0) (omega arith), ((omega arith, omega arith), λ h. omega arith))
 
 number-requires : tie.Need-number-requires
 number-requires c κs = search needs
@@ -65,7 +65,7 @@ returns-2 c =
     let s = l .before .before in
     let a = s .args in
     let w = lies (a .s .now) (a .at) (a .stop) (s .pre .0) in
-    (offset-bad (a .low + (a .n - 1) / 2) (a .hi + 2 - (a .low + a .n)) (l .length .result) w (l .length .ensures .0) (c .before .number .result) (omega arith) (c .before .number .ensures) (omega arith), (omega arith, omega arith))
+    (offset-bad (a .low + (a .n - 1) / 2) (a .hi + 2 - (a .low + a .n)) (l .length .result) w (l .length .ensures .0) (c .before .number .result) (omega arith) (c .before .number .ensures) (omega arith), ((omega arith, omega arith), λ h. omega arith))
 
 add-element : tie.Need-add-element
 add-element c = search needs
@@ -79,7 +79,7 @@ returns-3 c =
     let s = l .before .before in
     let a = s .args in
     let w = lies (a .s .now) (a .at) (a .stop) (s .pre .0) in
-    (offset-taken (a .low + (a .n - 1) / 2) (a .hi + 2 - (a .low + a .n)) (l .length .result) w (l .length .ensures .0) (c .before .number .result) (omega arith) (c .before .number .ensures) (omega arith), (omega arith, omega arith))
+    (offset-taken (a .low + (a .n - 1) / 2) (a .hi + 2 - (a .low + a .n)) (l .length .result) w (l .length .ensures .0) (c .before .number .result) (omega arith) (c .before .number .ensures) (omega arith), ((omega arith, omega arith), λ h. omega arith))
 
 pub read-middle-spec : {M : Type 1} → statement M
 read-middle-spec =
