@@ -33,7 +33,7 @@ impl BitReader<'_> {
         let rest = &self.bytes[(self.at / 8) as usize..];
         let loaded = match rest.first_chunk() {
             Some(&eight) => u64::from_be_bytes(eight),
-            None => last_bytes(rest),
+            None => last_bytes(self.bytes, rest.len()),
         };
         loaded << (self.at % 8)
     }
@@ -79,10 +79,14 @@ impl BitReader<'_> {
     }
 }
 
-/// Fewer than eight bytes as the highest of a window, with zeros below them.
+/// So many last bytes, fewer than eight, as the highest of a window, with zeros below them.
 #[cold]
-fn last_bytes(bytes: &[u8]) -> u64 {
-    let mut eight = [0; 8];
-    eight[..bytes.len()].copy_from_slice(bytes);
-    u64::from_be_bytes(eight)
+fn last_bytes(bytes: &[u8], count: usize) -> u64 {
+    // One load where there are eight: most words of a short record are read here.
+    let number = match bytes.last_chunk() {
+        Some(&eight) => u64::from_be_bytes(eight),
+        None => bytes.iter().fold(0, |number, &byte| number << 8 | u64::from(byte)),
+    };
+    // In two steps, since without a byte all 64 bits are shifted out.
+    number << (8 * (7 - count)) << 8
 }

@@ -3,7 +3,7 @@
 use super::heading::{Code, Kind};
 use super::writer::{body_bits, delta_bits, for_each_offset, heading_bits};
 use super::*;
-use crate::lists::instants;
+use crate::lists::bursts;
 use crate::streams::of_record;
 
 const UNTOUCHED: u32 = 0xA5A5_A5A5;
@@ -24,7 +24,7 @@ const HEADINGS: [[u32; 3]; 11] = [
 
 /// Every heading with lists that both kinds can hold, and that are short enough for a buffer by Rice too.
 fn records() -> impl Iterator<Item = ([u32; 3], Vec<u32>)> {
-    let lists = [vec![], vec![1], vec![1, 1, 1, 1], vec![5, 5, 9], vec![65_535, 65_536, 300_000], instants(3, 100)];
+    let lists = [vec![], vec![1], vec![1, 1, 1, 1], vec![5, 5, 9], vec![65_535, 65_536, 300_000], bursts(3, 100)];
     HEADINGS.into_iter().flat_map(move |heading| lists.clone().map(|list| (heading, list)))
 }
 

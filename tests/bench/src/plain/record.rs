@@ -31,9 +31,31 @@ pub struct Asked {
     pub room: usize,
 }
 
+/// What stands before a list.
+#[derive(Clone, Copy)]
+pub struct Heading {
+    code: Code,
+    kind: Kind,
+    count: u32,
+}
+
+impl Heading {
+    pub fn count(self) -> usize {
+        self.count as usize
+    }
+}
+
 pub fn record(bits: &mut BitReader, asked: Asked, tell: &mut impl FnMut(usize, u32)) -> Result<Found, Refusal> {
+    match heading(bits, asked)? {
+        Some(heading) => list(bits, heading, tell),
+        None => Ok(Found::End { next: bits.at() }),
+    }
+}
+
+/// The heading of a record, or nothing at the end mark.
+pub fn heading(bits: &mut BitReader, asked: Asked) -> Result<Option<Heading>, Refusal> {
     let Some(code) = bits.field(code)? else {
-        return Ok(Found::End { next: bits.at() });
+        return Ok(None);
     };
     let kind = bits.field(|bits| kind(bits, code, asked.kind))?;
     let code = match code {
@@ -41,6 +63,12 @@ pub fn record(bits: &mut BitReader, asked: Asked, tell: &mut impl FnMut(usize, u
         other => other,
     };
     let count = bits.field(|bits| count(bits, asked.room))?;
+    Ok(Some(Heading { code, kind, count }))
+}
+
+/// The list after a heading.
+pub fn list(bits: &mut BitReader, heading: Heading, tell: &mut impl FnMut(usize, u32)) -> Result<Found, Refusal> {
+    let Heading { code, kind, count } = heading;
     body(bits, code, kind, count as usize, tell)?;
     Ok(Found::Record { heading: [code.number(), code.parameter(), kind as u32], count, next: bits.at() })
 }
