@@ -46,18 +46,30 @@ pub fn rice(n: u32, k: usize) -> u64
     )
 }
 
-// A group alone.
+// Up to three groups. The number of bits is known from branches alone, so the processor need not wait for it.
 pub fn variable_byte(n: u32) -> u64
     ensures { λ r. ⌜ Glimpsed variableByte n r ⌝ }
 {
-    let group = n >> 24;
-    if group == 0 {
+    let first = n >> 24;
+    if first == 0 {
         return 0;
     }
-    if 127 < group {
+    if first < 128 {
+        return pack(first as u64, 8);
+    }
+    if first == 128 {
         return 0;
     }
-    pack(group as u64, 8)
+    let second = (n >> 16) % 256;
+    if second < 128 {
+        return pack(((first - 128) * 128 + second) as u64, 16);
+    }
+    let third = (n >> 8) % 256;
+    if third < 128 {
+        let high = (first - 128) * 128 + (second - 128);
+        return pack((high * 128 + third) as u64, 24);
+    }
+    0
 }
 
 // A length of up to 15.

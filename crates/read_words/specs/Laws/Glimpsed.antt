@@ -3,7 +3,7 @@ use mathlib.Core.Path.{_≡_, refl, sym, ap, ap₂, _∙_, subst, subst₂}
 use mathlib.Core.Bool.{Bool, true, false}
 use mathlib.Core.List.{List, _∷_, _++_, append-assoc, append-nil}
 use Prim.Native.Nat.{ℕ, zero, suc, _+_, _-_, _*_, _/_, _%_, _^_, _≤_, _<_}
-use native.Mathlib.Nat.{mod-lt, div-one, add-mul, one-mul, mul-le-mul-right}
+use native.Mathlib.Nat.{mod-lt, div-one, div-div-eq-div-mul, add-mul, one-mul, mul-le-mul-right}
 use native.Mathlib.Decide.{decLt}
 use native.Mathlib.Omega.{arith}
 use lib.Count.{leadingZeros, leading-top}
@@ -132,18 +132,82 @@ rice-seen n z k one p h f e l =
 
 -- ---- variable-byte
 
-pub group-seen : (n : ℕ) → 0 < n / 2 ^ 24 → n / 2 ^ 24 ≤ 127 → Word (n / 2 ^ 24) × (variableByte (n / 2 ^ 24) ≡ inBits 8 (n / 2 ^ 24))
-unfolding variableByte groups
-group-seen n h l =
-    let g : ℕ = n / 2 ^ 24 in
-    let w : Word g = (h, omega arith) in
-    let (m, e, d) = grouped-word w in
-    let z : m ≡ 0 = held-one {b = 128} (omega arith) d (record { low = h; high = omega arith }) in (
-      w,
-      ap (λ (k : ℕ). groups k g) (e ∙ ap suc z)
-          ∙ ap (λ (x : List Bool). false ∷ x) (append-nil (inBits 7 (g / 1)) ∙ ap (inBits 7) (div-one g))
-          ∙ sym (zeros-lead 1 7 (omega arith)),
+-- a group that none follows, after a 0
+last-group : (w g : ℕ) → g < 128 → w % 128 ≡ g → groups 1 w ≡ inBits 8 g
+unfolding groups
+last-group w g h e =
+    ap (λ (x : List Bool). false ∷ x) (append-nil (inBits 7 (w / 1)) ∙ ap (inBits 7) (div-one w) ∙ sym (inBits-mod 7 w) ∙ ap (inBits 7) e)
+    ∙ sym (zeros-lead 1 7 h)
+
+-- a group that others follow, after a 1
+front-group : (k w g : ℕ) → 128 ≤ g → g < 256 → w / 128 ^ suc k % 128 ≡ g - 128 → groups (suc (suc k)) w ≡ inBits 8 g ++ groups (suc k) w
+unfolding groups inBits odd
+front-group k w g h l e =
+    let a : 1 * 2 ^ 7 + (g - 128) ≡ g = omega arith in
+    ap (λ (x : List Bool). true ∷ x ++ groups (suc k) w) (sym (inBits-mod 7 (w / 128 ^ suc k)) ∙ ap (inBits 7) e)
+    ∙ ap (λ (x : List Bool). x ++ groups (suc k) w) (sym (inBits-cat 1 7 1 {n = g - 128} (omega arith)) ∙ ap (inBits 8) a)
+
+-- the word of so many groups
+of-groups : (w m : ℕ) → Word w → 128 ^ m ≤ w → w < 128 ^ suc m → variableByte w ≡ groups (suc m) w
+unfolding variableByte
+of-groups w m h low high =
+    let (k, e, d) = grouped-word h in
+    ap (λ (g : ℕ). groups g w) (e ∙ ap suc (held-one {b = 128} (omega arith) d (record { low = low; high = high })))
+
+two-groups : (w f g : ℕ) → 128 < f → f < 256 → g < 128 → w ≡ (f - 128) * 128 + g → Word w × (variableByte w ≡ inBits 8 f ++ inBits 8 g)
+two-groups w f g a b c e =
+    let v : Word w = (omega arith, omega arith) in (
+      v,
+      of-groups w 1 v (omega arith) (omega arith)
+          ∙ front-group 0 w f (omega arith) b (omega arith)
+          ∙ ap (λ (x : List Bool). inBits 8 f ++ x) (last-group w g c (omega arith)),
     )
+
+-- the group before the last of three, and the one before that
+high-two : (f g : ℕ) → 128 < f → f < 256 → 128 ≤ g → g < 256 → (((f - 128) * 128 + (g - 128)) % 128 ≡ g - 128) × (((f - 128) * 128 + (g - 128)) / 128 % 128 ≡ f - 128)
+high-two f g a b c d = (omega arith, omega arith)
+
+three-groups : (w f g h : ℕ) → 128 < f → f < 256 → 128 ≤ g → g < 256 → h < 128 → w ≡ ((f - 128) * 128 + (g - 128)) * 128 + h → Word w × (variableByte w ≡ inBits 8 f ++ (inBits 8 g ++ inBits 8 h))
+three-groups w f g h a b c d l e =
+    let v : Word w = (omega arith, omega arith) in
+    let (middle, top) = high-two f g a b c d in
+    let low : w % 128 ≡ h = omega arith in
+    let high : w / 128 ≡ (f - 128) * 128 + (g - 128) = omega arith in
+    let above : w / 128 ^ 2 ≡ ((f - 128) * 128 + (g - 128)) / 128 = sym (div-div-eq-div-mul w 128 128) ∙ ap (λ (x : ℕ). x / 128) high in (
+      v,
+      of-groups w 2 v (omega arith) (omega arith)
+          ∙ front-group 1 w f (omega arith) b (ap (λ (x : ℕ). x % 128) above ∙ top)
+          ∙ ap (λ (x : List Bool). inBits 8 f ++ x) (front-group 0 w g c d (ap (λ (x : ℕ). x % 128) high ∙ middle) ∙ ap (λ (x : List Bool). inBits 8 g ++ x) (last-group w h l low)),
+    )
+
+-- the bytes at the front of 32 bits
+two-bytes : (y : ℕ) → inBits 8 (y / 2 ^ 8) ++ inBits 8 (y % 2 ^ 8) ≡ inBits 16 y
+two-bytes y = ap (λ (x : List Bool). inBits 8 (y / 2 ^ 8) ++ x) (inBits-mod 8 y) ∙ sym (inBits-split 8 8 y)
+
+module _ (n : ℕ) where
+  pub group-seen : 0 < n / 2 ^ 24 → n / 2 ^ 24 < 128 → Word (n / 2 ^ 24) × (variableByte (n / 2 ^ 24) ≡ inBits 8 (n / 2 ^ 24))
+  group-seen h l =
+      let g : ℕ = n / 2 ^ 24 in
+      let v : Word g = (h, omega arith) in
+      (v, of-groups g 0 v h (omega arith) ∙ last-group g g l (omega arith))
+
+  pub two-seen : (w : ℕ) → 128 < n / 2 ^ 24 → n / 2 ^ 24 < 256 → n / 2 ^ 16 % 256 < 128 → w ≡ (n / 2 ^ 24 - 128) * 128 + n / 2 ^ 16 % 256
+      → Word w × (variableByte w ≡ inBits 16 (n / 2 ^ 16))
+  two-seen w h f l e =
+      let (v, i) = two-groups w (n / 2 ^ 24) (n / 2 ^ 16 % 256) h f l e in
+      (v, i ∙ ap (λ (x : ℕ). inBits 8 x ++ inBits 8 (n / 2 ^ 16 % 256)) (sym (shr-shr n 16 8)) ∙ two-bytes (n / 2 ^ 16))
+
+  pub three-seen : (w : ℕ) → 128 < n / 2 ^ 24 → n / 2 ^ 24 < 256 → 128 ≤ n / 2 ^ 16 % 256 → n / 2 ^ 8 % 256 < 128
+      → w ≡ ((n / 2 ^ 24 - 128) * 128 + (n / 2 ^ 16 % 256 - 128)) * 128 + n / 2 ^ 8 % 256 → Word w × (variableByte w ≡ inBits 24 (n / 2 ^ 8))
+  three-seen w h f m l e =
+      let y : ℕ = n / 2 ^ 8 in
+      let (v, i) = three-groups w (n / 2 ^ 24) (n / 2 ^ 16 % 256) (y % 256) h f m (mod-lt (n / 2 ^ 16) (omega arith)) l e in (
+        v,
+        i
+            ∙ ap₂ (λ (a b : ℕ). inBits 8 a ++ (inBits 8 (b % 256) ++ inBits 8 (y % 256))) (sym (shr-shr n 8 16)) (sym (shr-shr n 8 8))
+            ∙ ap (λ (x : List Bool). inBits 8 (y / 2 ^ 16) ++ x) (ap (λ (x : List Bool). x ++ inBits 8 (y % 256)) (inBits-mod 8 (y / 2 ^ 8)) ∙ two-bytes y)
+            ∙ sym (inBits-split 8 16 y),
+      )
 
 -- ---- delta
 
