@@ -1,144 +1,206 @@
-// What is printed of a case.
+// What is printed of an answer.
+ghost use Prim.Native.Nat.{_≤_, _<_};
+ghost use lib.ListN.{length};
+use crate::corrections;
+use crate::scan::Form;
 use bits::BitPos;
 use headings::Heading;
 use moortangle::Wrote;
-use read_words::Read;
+use read_records::Checked;
+use read_records::LookedUp;
+use read_records::LookedUpCorrection;
+use read_records::Read;
+use read_records::Searched;
 use reading::Refusal;
+
+// An answer of document 01, and the bit or the place that it tells.
+struct Answer {
+    answer: u32,
+    at: usize,
+}
 
 pub(crate) fn text(t: &[u8]) {
     io::write_all(1, t);
 }
 
-pub(crate) fn number(name: &[u8], n: u64) {
-    text(name);
-    io::print_decimal(1, n);
-    text(b"\n");
+pub(crate) fn byte(b: u8) {
+    text(&[b]);
 }
 
-pub(crate) fn read(name: &[u8], r: Read) {
-    text(name);
+fn number(n: u32) {
+    io::print_decimal(1, n as u64);
+}
+
+// A number after a space.
+pub(crate) fn spaced(n: usize) {
+    byte(b' ');
+    io::print_decimal(1, n as u64);
+}
+
+pub(crate) fn not_a_case() {
+    text(b"not a case");
+}
+
+pub(crate) fn told(answer: u32, at: usize) {
+    number(answer);
+    text(b" at");
+    spaced(at);
+}
+
+fn refused(why: Refusal, at: BitPos) {
+    told(reading::number(why), at.bit());
+}
+
+fn of_writer(r: Wrote) -> Answer {
     match r {
-        Read::Took(w, next) => {
-            text(b"taken ");
-            io::print_decimal(1, w as u64);
-            number(b" up to bit ", next.at().bit() as u64);
-        }
-        Read::Cut => text(b"cut\n"),
-        Read::Bad(at) => number(b"bad at bit ", at.bit() as u64),
+        Wrote::Done(next) => Answer {
+            answer: 0,
+            at: next.bit(),
+        },
+        Wrote::TooMany => Answer { answer: 1, at: 0 },
+        Wrote::OutOfRange(i) => Answer { answer: 2, at: i },
+        Wrote::Falls(i) => Answer { answer: 3, at: i },
+        Wrote::Unknown => Answer { answer: 4, at: 0 },
+        Wrote::Full => Answer { answer: 5, at: 0 },
+        Wrote::Outside => Answer { answer: 12, at: 0 },
     }
 }
 
-fn byte(b: u8) {
-    text(b" ");
-    io::print_hex(1, b as u64, 2);
+pub(crate) fn wrote(r: Wrote) {
+    let t = of_writer(r);
+    told(t.answer, t.at);
 }
 
-// The bytes of a buffer in hexadecimal.
-pub(crate) fn bytes(name: &[u8], buf: &[u8]) {
-    text(name);
-    let mut i = 0;
-    while i < buf.len() {
-        byte(buf[i]);
-        i += 1;
-    }
-    text(b"\n");
-}
-
-// What a writer answers, with what it tells.
-pub(crate) fn wrote(name: &[u8], r: Wrote) {
-    text(name);
-    match r {
-        Wrote::Done(next) => number(b"done, up to bit ", next.bit() as u64),
-        Wrote::TooMany => text(b"1\n"),
-        Wrote::OutOfRange(i) => number(b"2 at place ", i as u64),
-        Wrote::Falls(i) => number(b"3 at place ", i as u64),
-        Wrote::Unknown => text(b"4\n"),
-        Wrote::Full => text(b"5\n"),
-        Wrote::Outside => text(b"12\n"),
-    }
-}
-
-// Why a reader refuses, and the bit that this tells.
-pub(crate) fn refused(why: Refusal, at: BitPos) {
-    io::print_decimal(1, reading::number(why) as u64);
-    number(b" at bit ", at.bit() as u64);
-}
-
-fn spaced(n: u64) {
-    text(b" ");
-    io::print_decimal(1, n);
-}
-
-// A name and a number within a line.
-pub(crate) fn part(name: &[u8], n: u64) {
-    text(name);
-    spaced(n);
-}
-
-// Between which bits a record is read.
-pub(crate) fn span(start: usize, stop: usize) {
-    part(b" from", start as u64);
-    part(b" to", stop as u64);
-}
-
-// The same, and the kind that is asked for.
-pub(crate) fn asked(start: usize, stop: usize, kind: u32) {
-    span(start, stop);
-    part(b", kind", kind as u64);
-}
-
-// A record's code, kind, parameter and count. Its values follow on the same line.
-pub(crate) fn heading(h: Heading, count: usize) {
+// A record's code, kind, parameter and count.
+fn record(h: Heading, count: usize) {
     let code = h.code;
     let kind = h.kind;
-    io::print_decimal(1, headings::code_number(code) as u64);
-    spaced(headings::kind_number(kind) as u64);
-    spaced(headings::parameter(code) as u64);
-    spaced(count as u64);
+    spaced(headings::code_number(code) as usize);
+    spaced(headings::kind_number(kind) as usize);
+    spaced(headings::parameter(code) as usize);
+    spaced(count);
 }
 
-fn value(v: u32) {
-    spaced(v as u64);
-}
-
-// The values of a list of plain values or of instants.
-pub(crate) fn values(list: &[u32]) {
-    let mut i = 0;
-    while i < list.len() {
-        value(list[i]);
-        i += 1;
+pub(crate) fn read(r: Read) {
+    match r {
+        Read::Record(h, count, next) => {
+            told(0, next.bit());
+            record(h, count);
+        }
+        Read::End(next) => {
+            told(0, next.bit());
+            text(b" end");
+        }
+        Read::Refused(why, at) => refused(why, at),
     }
 }
 
-// How far a number is from zero. The lowest has no negation, so it is counted from -1.
-fn size(v: i32) -> u64 {
-    if 0 <= v {
-        return v as u64;
-    }
-    (-1 - v) as u64 + 1
-}
-
-// Nothing else prints a signed number.
-fn correction(v: i32) {
-    text(b" ");
-    if v < 0 {
-        text(b"-");
-    }
-    io::print_decimal(1, size(v));
-}
-
-// The values of a list of corrections.
-pub(crate) fn corrections(list: &[i32]) {
-    let mut i = 0;
-    while i < list.len() {
-        correction(list[i]);
-        i += 1;
+pub(crate) fn looked_up(r: LookedUp) {
+    match r {
+        LookedUp::Value(v) => {
+            text(b"value");
+            spaced(v as usize);
+        }
+        LookedUp::Refused(why, at) => refused(why, at),
     }
 }
 
-// A correction alone.
-pub(crate) fn found(v: i32) {
-    text(b"value");
-    correction(v);
-    text(b"\n");
+pub(crate) fn looked_up_correction(r: LookedUpCorrection) {
+    match r {
+        LookedUpCorrection::Value(v) => {
+            text(b"value ");
+            correction(corrections::complement(v));
+        }
+        LookedUpCorrection::Refused(why, at) => refused(why, at),
+    }
+}
+
+pub(crate) fn searched(r: Searched) {
+    match r {
+        Searched::Below(n) => {
+            text(b"below it");
+            spaced(n);
+        }
+        Searched::Refused(why, at) => refused(why, at),
+    }
+}
+
+pub(crate) fn checked(r: Checked) {
+    match r {
+        Checked::Stream(records, values) => {
+            text(b"records");
+            spaced(records);
+            text(b" values");
+            spaced(values);
+        }
+        Checked::Refused(why, at) => refused(why, at),
+    }
+}
+
+// A number in two's complement, with its sign.
+fn correction(v: u32) {
+    if v < 2147483648 {
+        return number(v);
+    }
+    byte(b'-');
+    number(4294967295 - v + 1);
+}
+
+fn item(v: u32, form: Form) {
+    match form {
+        Form::Positions => number(v),
+        Form::Bytes => {
+            io::print_hex(1, v as u64, 2);
+        }
+        Form::Values => number(v),
+        Form::Corrections => correction(v),
+    }
+}
+
+// The end of the items from a place on that are alike.
+fn run(list: &[u32], at: usize) -> usize
+    requires { ⌜ at < length (now list) ⌝ }
+    ensures { λ r. ⌜ (at < r) × (r ≤ length (now (list .entry))) ⌝ }
+{
+    let mut end = at + 1;
+    while end < list.len() {
+        if list[end] != list[at] {
+            break;
+        }
+        end += 1;
+    }
+    end
+}
+
+// One item, or a long run as a case may give it: `N*` and the item.
+fn some(count: usize, v: u32, form: Form) {
+    byte(b' ');
+    if 1 < count {
+        io::print_decimal(1, count as u64);
+        byte(b'*');
+    }
+    item(v, form);
+}
+
+// How many of the items that are alike are printed together.
+fn together(alike: usize) -> usize
+    requires { ⌜ 1 ≤ alike ⌝ }
+    ensures { λ r. ⌜ (1 ≤ r) × (r ≤ alike) ⌝ }
+{
+    if alike < 8 {
+        return 1;
+    }
+    alike
+}
+
+// The items of lent memory after the call.
+pub(crate) fn items(list: &[u32], form: Form) {
+    byte(b' ');
+    byte(b'|');
+    let mut at = 0;
+    while at < list.len() {
+        let count = together(run(list, at) - at);
+        some(count, list[at], form);
+        at += count;
+    }
 }

@@ -9,8 +9,8 @@ use lib.Signed.{leZ, nonNeg}
 use mir.Syntax.{w32}
 use mir.Val.{Fits, SFits}
 use mir.Facts.{toZ-ofZ, fits-natAbs}
-use Rattle.cases.proofs.say.size.Statement.{statement}
-use Rattle.cases.proofs.say.size.Tie as tie
+use Rattle.cases.proofs.corrections.complement.Statement.{statement}
+use Rattle.cases.proofs.corrections.complement.Tie as tie
 
 not-negative : (x : ℤ) → leZ (pos 0) x ≡ true → T (nonNeg x)
 not-negative (pos n) h = tt
@@ -48,16 +48,17 @@ cast-result-2 c =
     let b = below v (rw e at (c .if1 .left)) (c .before .fits .v) in
     rw (e, toZ-ofZ (b .0)) (b .1, fits-natAbs tt (b .0))
 
-add-result : tie.Need-add-result
-add-result c =
+sub-result-2 : tie.Need-sub-result-2
+sub-result-2 c =
     let v = c .before .args .v in
     let e = toZ-ofZ (c .before .fits .v) in
     let b = below v (rw e at (c .if1 .left)) (c .before .fits .v) in
     let f : Fits w32 (natAbs (negsuc 0 -ℤ v)) = fits-natAbs tt (b .0) in
-    rw (e, toZ-ofZ (b .0)) (record { fits = omega (arith, f .fits) })
+    rw (e, toZ-ofZ (b .0)) (omega (arith, f .fits))
 
 returns-2 : tie.Need-returns-2
 returns-2 c = search needs
 
-pub size-spec : {M : Type 1} → statement M
-size-spec = tie.close (tie.spec cast-result returns sub-result cast-result-2 add-result returns-2)
+pub complement-spec : {M : Type 1} → statement M
+complement-spec =
+    tie.close (tie.spec cast-result returns sub-result cast-result-2 sub-result-2 returns-2)

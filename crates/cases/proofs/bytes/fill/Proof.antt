@@ -1,26 +1,30 @@
+use mathlib.Core.Path.{_≡_}
 use Prim.Native.Nat.{_-_, _≤_}
 use lib.ListN.{length}
 use borrow.Author.Needs.{needs}
-use Rattle.cases.proofs.say.bytes.Statement.{statement}
-use Rattle.cases.proofs.say.bytes.Tie as tie
+use Rattle.cases.proofs.bytes.fill.Statement.{statement}
+use Rattle.cases.proofs.bytes.fill.Tie as tie
 
 abbrev Inv-loop : tie.InvT-loop
-Inv-loop name buf i₀ t4 i = i ≤ length buf
+Inv-loop list buf₀ i₀ buf i = (i ≤ length list) × (length buf ≡ length buf₀)
 
 abbrev μ-loop : tie.MeasureT-loop
-μ-loop name buf i₀ t4 i = length buf - i
-
-text-requires : tie.Need-text-requires Inv-loop μ-loop
-text-requires c κs = search needs
+μ-loop list buf₀ i₀ buf i = length list - i
 
 loop-holds : tie.Need-loop-holds Inv-loop μ-loop
 loop-holds c = search needs
+
+mul-byte : tie.Need-mul-byte Inv-loop μ-loop
+mul-byte c = search needs
 
 shared-slice-read-byte : tie.Need-shared-slice-read-byte Inv-loop μ-loop
 shared-slice-read-byte c = search needs
 
 byte-requires : tie.Need-byte-requires Inv-loop μ-loop
 byte-requires c κs = search needs
+
+slice-write-buf : tie.Need-slice-write-buf Inv-loop μ-loop
+slice-write-buf c = search needs
 
 add-i : tie.Need-add-i Inv-loop μ-loop
 add-i c = search needs
@@ -31,28 +35,25 @@ loop-less c = search needs
 loop-again : tie.Need-loop-again Inv-loop μ-loop
 loop-again c = search needs
 
-slice-aggregate-text : tie.Need-slice-aggregate-text Inv-loop μ-loop
-slice-aggregate-text c = search needs
-
-text-requires-2 : tie.Need-text-requires-2 Inv-loop μ-loop
-text-requires-2 c κs = search needs
+same-length : tie.Need-same-length Inv-loop μ-loop
+same-length c = search needs
 
 returns : tie.Need-returns Inv-loop μ-loop
 returns c = search needs
 
-pub bytes-spec : {M : Type 1} → statement M
-bytes-spec =
+pub fill-spec : {M : Type 1} → statement M
+fill-spec =
     tie.close
     (tie.spec
     Inv-loop
     μ-loop
-    text-requires
     loop-holds
+    mul-byte
     shared-slice-read-byte
     byte-requires
+    slice-write-buf
     add-i
     loop-less
     loop-again
-    slice-aggregate-text
-    text-requires-2
+    same-length
     returns)
