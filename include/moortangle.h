@@ -50,16 +50,16 @@ moortangle_written moortangle_write_end(uint8_t *buffer, size_t bytes, uint64_t 
 /*
  * What a reader answers:
  *    0  done
- *    5  the count is above the lent list's length
+ *    5  (moortangle_read, moortangle_read_corrections) the count is above the lent list's length
  *    6  cut short: the stop comes before the end of a field
  *    7  an asked kind that is not this function's; a code over 5; kind 3, a kind that is not the asked one, or code 5 without
  *       kind 1; in look-up and search also an end mark
  *    8  a count over 4,096
  *    9  bits that no word begins with, or an offset that the interpolative code does not have
  *   10  an instant above 4,294,967,294, or the word 1 among corrections
- *   11  a stream whose padding is not zero, or that has a byte after it
- *   12  a buffer of more than 65,536 bytes, or not start <= stop <= 8 times its bytes
- *   13  a place that is not below the count
+ *   11  (moortangle_check) a stream whose padding is not zero, or that has a byte after it
+ *   12  a buffer of more than 65,536 bytes, or, but for moortangle_check, not start <= stop <= 8 times its bytes
+ *   13  (the look-ups) a place that is not below the count
  * Where several hold: 12, then an asked kind that is not this function's, then what is wrong with the first field that fails
  * (8 before 5, 9 before 10), then 13.
  * told: 5 to 10, the bit where the failing field starts, but 0 for an asked kind that is not this function's; 11, the bit after

@@ -124,7 +124,7 @@ module _ {qs : List Call} {bytes middle : List ℕ} {next : ℕ} (written : Writ
   all-left =
       put-both (bitsOf bytes) image (endImage next) 0 (length image) (omega arith) refl (in-front .left) (marked .left ∙ ap (λ (k : ℕ). put (bitsOf middle) k (endImage next)) (in-front .told))
 
-  -- "check of exactly the told bytes" gives the numbers of records and of values
+  -- the check of exactly the bytes up to the told bit gives the numbers of records and of values
   pub check-written : (a : Checked) → Checks (take (end .0 / 8) after) (checked a) → a ≡ OfChecked.Stream (length qs) (valuesOf qs)
   check-written a h =
       let told = in-front .told in
@@ -153,7 +153,7 @@ module _ {qs : List Call} {bytes middle : List ℕ} {next : ℕ} (written : Writ
       (subst₂ (λ (i j : ℕ). Checks (take (end .0 / 8) after) (gives (i, j))) records values
       (stream-checks (in-front .rs) (take (end .0 / 8) after) (all-valid qs (in-front .rs) (in-front .asked)) short bits)))
 
-  -- "and reading goes through them one by one to "end"", up to any stop behind the mark
+  -- and reading goes through them one by one up to the end mark, with any stop after it
   pub read-written : (stop : ℕ) → next + 4 ≤ stop → stop ≤ 8 * length after → ReadInTurn after stop qs 0
   read-written stop h k =
       let l : List Bool = bitsOf after in
