@@ -6,11 +6,11 @@ use crate::scan::Form;
 use bits::BitPos;
 use headings::Heading;
 use moortangle::Wrote;
-use read_records::Checked;
 use read_records::LookedUp;
 use read_records::LookedUpCorrection;
 use read_records::Read;
 use read_records::Searched;
+use read_streams::Checked;
 use reading::Refusal;
 
 // An answer of document 01, and the bit or the place that it tells.

@@ -1,9 +1,9 @@
 // A whole stream.
 ghost use Rattle.format.specs.Reading.{Checks};
-ghost use Rattle.read_records.specs.Told.{checked};
+ghost use Rattle.read_streams.specs.Told.{checked};
 use bits::BitPos;
 use bits::Cursor;
-use read_records::Checked;
+use read_streams::Checked;
 use reading::Refusal;
 
 pub fn check(s: &[u8]) -> Checked
@@ -13,5 +13,5 @@ pub fn check(s: &[u8]) -> Checked
         return Checked::Refused(Refusal::Outside, BitPos::new(0));
     }
     let all = Cursor::new(BitPos::new(0), BitPos::new(8 * s.len()));
-    read_records::stream::check(all, s)
+    read_streams::check(all, s)
 }

@@ -4,16 +4,17 @@ ghost use mathlib.Core.List.{map};
 ghost use lib.IntN.{pos};
 ghost use Rattle.format.specs.Kinds.{Unsigned, Signed};
 ghost use Rattle.format.specs.Reading.{Reads, LooksUp, Searches, Checks};
-ghost use Rattle.read_records.specs.Told.{lookedUp, lookedUpCorrection, searched, checked};
+ghost use Rattle.read_records.specs.Told.{lookedUp, lookedUpCorrection, searched};
+ghost use Rattle.read_streams.specs.Told.{checked};
 ghost use Rattle.moortangle_c.specs.Flat.{flatRecord, flatValue, flatCorrection, flatPlace, flatStream, Tells};
 ghost use Rattle.moortangle_c.specs.Reads.{FewValues, flatRead};
 use bits::BitPos;
 use headings::Heading;
-use read_records::Checked;
 use read_records::LookedUp;
 use read_records::LookedUpCorrection;
 use read_records::Read;
 use read_records::Searched;
+use read_streams::Checked;
 
 // What a reader answers. The heading is that of the record; an end mark and a refusal have none.
 #[repr(C)]

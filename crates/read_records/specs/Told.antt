@@ -4,7 +4,6 @@ use mathlib.Core.List.{List, _++_, map}
 use Prim.Native.Nat.{ℕ, _≤_}
 use lib.IntN.{ℤ, pos}
 use lib.ListN.{length, getD, take, drop}
-use Rattle.layout.specs.Layout.{Layout}
 use Rattle.format.specs.Kinds.{Kind}
 use Rattle.format.specs.Records.{This, Asked, recordFor}
 use Rattle.format.specs.Answers.{Outcome, refuses, gives}
@@ -24,12 +23,8 @@ use Rattle.read_records.specs.declared.LookedUpCorrection.{LookedUpCorre
 use Rattle.read_records.specs.declared.LookedUpCorrection.the-variants as OfCorrection
 use Rattle.read_records.specs.declared.Searched.{Searched}
 use Rattle.read_records.specs.declared.Searched.the-variants as OfSearched
-use Rattle.read_records.specs.declared.Checked.{Checked}
-use Rattle.read_records.specs.declared.Checked.the-variants as OfChecked
 use Rattle.read_records.specs.declared.Seen.{Seen}
 use Rattle.read_records.specs.declared.Seen.the-variants as OfSeen
-use Rattle.read_records.specs.declared.Passed.{Passed}
-use Rattle.read_records.specs.declared.Passed.the-variants as OfPassed
 
 -- ---- the public answers: the table's number and the bit told with it, or what is given
 
@@ -56,10 +51,6 @@ abbrev pub searched : Searched → Outcome ℕ
 searched (OfSearched.Below n) = gives n
 searched (OfSearched.Refused m p) = refuses (refusalNumber m) (p .0)
 
-abbrev pub checked : Checked → Outcome (ℕ × ℕ)
-checked (OfChecked.Stream records values) = gives (records, values)
-checked (OfChecked.Refused m p) = refuses (refusalNumber m) (p .0)
-
 -- ---- at a cursor
 
 -- a record of this kind has been read into a lent list that was `old` and is `new`, or an end mark, or neither
@@ -82,8 +73,3 @@ pub data ToldSeen (q : Asked) (place sought : ℕ) (s : List ℕ) (c : Cursor) :
   whole : {n v less : ℕ} (h : Heading) (ns : List ℕ) (d : Cursor) → Taken (recordFor q) s c (headed h (map pos ns)) d
       → n ≡ length ns → v ≡ getD ns place 0 → less ≡ below sought (map pos ns) → ToldSeen q place sought s c (OfSeen.Record n v less)
   no : {m : Refusal} {p : BitPos} → Refuses (recordFor q) s c (refusalNumber m) p → ToldSeen q place sought s c (OfSeen.No m p)
-
--- some list stands at c, before d
-pub data ToldPassed (L : Layout (List ℤ)) (s : List ℕ) (c : Cursor) : Passed → Type 0 where
-  after : {d : Cursor} (vs : List ℤ) → Taken L s c vs d → ToldPassed L s c (OfPassed.After d)
-  no : {m : Refusal} {p : BitPos} → Refuses L s c (refusalNumber m) p → ToldPassed L s c (OfPassed.No m p)

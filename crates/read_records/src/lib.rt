@@ -1,11 +1,9 @@
 // A whole record, or an end mark, read at a cursor: its body judged and kept, and only then copied into a lent list.
 use bits::BitPos;
-use bits::Cursor;
 use headings::Heading;
 use reading::Refusal;
 
 pub mod signed;
-pub mod stream;
 pub mod unsigned;
 
 // What a reader answers: a record's heading, its count and the bit after it; the bit after an end mark; or why it is neither, and the
@@ -34,20 +32,8 @@ pub enum Searched {
     Refused(Refusal, BitPos),
 }
 
-// What the stream check answers: the number of records and of values.
-pub enum Checked {
-    Stream(usize, usize),
-    Refused(Refusal, BitPos),
-}
-
 // A whole record without a list: its count, the value at a place, and how many are below a sought one. An end mark is no record.
 enum Seen {
     Record(usize, u32, usize),
-    No(Refusal, BitPos),
-}
-
-// A body judged, for whoever asks no more of it than where it ends.
-enum Passed {
-    After(Cursor),
     No(Refusal, BitPos),
 }

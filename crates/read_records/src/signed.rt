@@ -1,13 +1,11 @@
-// Records of corrections. Their body is never by halves: code 5 is for instants.
+// Records of corrections.
 ghost use Prim.Native.Nat.{_≤_};
 ghost use lib.ListN.{length};
 ghost use Rattle.format.specs.Limits.{longestList};
 ghost use Rattle.format.specs.Kinds.{Signed, Corrections};
 ghost use Rattle.format.specs.Reading.{LookUp, askedFor};
 ghost use Rattle.bits.specs.Cursor.{Within, left};
-ghost use Rattle.reading.specs.Judging.{ToldCorrections, ToldKept};
-ghost use Rattle.read_headings.specs.Told.{bodyOf};
-ghost use Rattle.read_records.specs.Bodies.{HeadingFor};
+ghost use Rattle.read_bodies.specs.Bodies.{HeadingFor};
 ghost use Rattle.read_records.specs.Told.{Copied, ToldListed, ToldRead, lookedUpCorrection};
 use crate::LookedUpCorrection;
 use crate::Read;
@@ -15,34 +13,11 @@ use bits::BitPos;
 use bits::Cursor;
 use headings::Heading;
 use headings::Kind;
-use headings::bodies::Body;
 use read_headings::Begun;
 use read_headings::Wanted;
 use reading::JudgedCorrections;
 use reading::Kept;
 use reading::Refusal;
-
-pub fn judge_body(c: Cursor, s: &[u8], h: Heading, n: usize, place: usize) -> JudgedCorrections
-    requires { ⌜ Within c (length (now s)) × HeadingFor Signed h × (n ≤ longestList) ⌝ }
-    ensures { λ r. ⌜ ToldCorrections (bodyOf h n) place (now (s .entry)) c r ⌝ }
-{
-    let code = h.code;
-    match headings::bodies::body_of(code) {
-        Body::ByWords(words) => read_lists::signed::judge(c, s, words, n, place),
-        Body::ByHalves => JudgedCorrections::Whole(0, c),
-    }
-}
-
-fn keep_body(c: Cursor, s: &[u8], h: Heading, n: usize, own: &mut [i32]) -> Kept
-    requires { ⌜ Within c (length (now s)) × HeadingFor Signed h × (n ≤ longestList) × (n ≤ length (now own)) ⌝ }
-    ensures { λ r. ⌜ ToldKept (bodyOf h n) n (now (s .entry)) c (now (own .entry)) (now (own .exit)) r ⌝ }
-{
-    let code = h.code;
-    match headings::bodies::body_of(code) {
-        Body::ByWords(words) => read_lists::signed::keep(c, s, words, n, own),
-        Body::ByHalves => Kept::Whole(c),
-    }
-}
 
 // The first n corrections of an own list, put in front of a lent one.
 fn copy(own: &[i32], n: usize, list: &mut [i32])
@@ -62,7 +37,7 @@ fn copied(c: Cursor, s: &[u8], h: Heading, n: usize, own: &mut [i32], list: &mut
     requires room { ⌜ (n ≤ length (now own)) × (n ≤ length (now list)) ⌝ }
     ensures { λ r. ⌜ ToldListed h n (now (s .entry)) c (now (list .entry)) (now (list .exit)) r ⌝ }
 {
-    match keep_body(c, s, h, n, own) {
+    match read_bodies::signed::keep(c, s, h, n, own) {
         Kept::Whole(d) => {
             copy(own, n, list);
             Read::Record(h, n, d.at())
@@ -100,7 +75,7 @@ pub fn look_up(c: Cursor, s: &[u8], place: usize) -> LookedUpCorrection
     ensures { λ r. ⌜ LookUp place (askedFor Corrections) (c .stop .0) (left c (now (s .entry))) (lookedUpCorrection r) ⌝ }
 {
     match read_headings::read(c, s, Wanted::This(Kind::Corrections), 4096) {
-        Begun::Body(h, n, d) => match judge_body(d, s, h, n, place) {
+        Begun::Body(h, n, d) => match read_bodies::signed::judge(d, s, h, n, place) {
             JudgedCorrections::Whole(v, _) => {
                 if place < n {
                     return LookedUpCorrection::Value(v);

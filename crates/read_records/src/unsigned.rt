@@ -10,9 +10,7 @@ ghost use Rattle.format.specs.Reading.{LookUp, Search, askedFor};
 ghost use Rattle.format.specs.Kinds as Kinds;
 ghost use Rattle.bits.specs.Cursor.{Within, left};
 ghost use Rattle.headings.specs.Headings.{kindOf};
-ghost use Rattle.reading.specs.Judging.{ToldJudged, ToldKept};
-ghost use Rattle.read_headings.specs.Told.{bodyOf};
-ghost use Rattle.read_records.specs.Bodies.{HeadingFor};
+ghost use Rattle.read_bodies.specs.Bodies.{HeadingFor};
 ghost use Rattle.read_records.specs.Told.{Copied, ToldListed, ToldRead, ToldSeen, lookedUp, searched};
 use crate::LookedUp;
 use crate::Read;
@@ -22,46 +20,11 @@ use bits::BitPos;
 use bits::Cursor;
 use headings::Heading;
 use headings::Kind;
-use headings::bodies::Body;
 use read_headings::Begun;
 use read_headings::Wanted;
 use reading::Judged;
 use reading::Kept;
 use reading::Refusal;
-
-pub fn judge_body(c: Cursor, s: &[u8], h: Heading, n: usize, place: usize, sought: u32) -> Judged
-    requires { ⌜ Within c (length (now s)) × HeadingFor Unsigned h × (n ≤ longestList) ⌝ }
-    ensures { λ r. ⌜ ToldJudged (bodyOf h n) place sought (now (s .entry)) c r ⌝ }
-{
-    let code = h.code;
-    let kind = h.kind;
-    let instants = headings::bodies::is_instants(kind);
-    match headings::bodies::body_of(code) {
-        Body::ByWords(words) => read_lists::unsigned::judge(
-            c,
-            s,
-            words,
-            instants,
-            n,
-            place,
-            sought,
-        ),
-        Body::ByHalves => read_interpolative::judge(c, s, n, place, sought),
-    }
-}
-
-fn keep_body(c: Cursor, s: &[u8], h: Heading, n: usize, own: &mut [u32]) -> Kept
-    requires { ⌜ Within c (length (now s)) × HeadingFor Unsigned h × (n ≤ longestList) × (n ≤ length (now own)) ⌝ }
-    ensures { λ r. ⌜ ToldKept (bodyOf h n) n (now (s .entry)) c (map pos (now (own .entry))) (map pos (now (own .exit))) r ⌝ }
-{
-    let code = h.code;
-    let kind = h.kind;
-    let instants = headings::bodies::is_instants(kind);
-    match headings::bodies::body_of(code) {
-        Body::ByWords(words) => read_lists::unsigned::keep(c, s, words, instants, n, own),
-        Body::ByHalves => keep_interpolative::keep(c, s, n, own),
-    }
-}
 
 // The first n values of an own list, put in front of a lent one.
 fn copy(own: &[u32], n: usize, list: &mut [u32])
@@ -81,7 +44,7 @@ fn copied(c: Cursor, s: &[u8], h: Heading, n: usize, own: &mut [u32], list: &mut
     requires room { ⌜ (n ≤ length (now own)) × (n ≤ length (now list)) ⌝ }
     ensures { λ r. ⌜ ToldListed h n (now (s .entry)) c (map pos (now (list .entry))) (map pos (now (list .exit))) r ⌝ }
 {
-    match keep_body(c, s, h, n, own) {
+    match read_bodies::unsigned::keep(c, s, h, n, own) {
         Kept::Whole(d) => {
             copy(own, n, list);
             Read::Record(h, n, d.at())
@@ -119,7 +82,7 @@ fn see(c: Cursor, s: &[u8], kind: Kind, place: usize, sought: u32) -> Seen
     ensures { λ r. ⌜ ToldSeen (askedFor (kindOf kind)) place sought (now (s .entry)) c r ⌝ }
 {
     match read_headings::read(c, s, Wanted::This(kind), 4096) {
-        Begun::Body(h, n, d) => match judge_body(d, s, h, n, place, sought) {
+        Begun::Body(h, n, d) => match read_bodies::unsigned::judge(d, s, h, n, place, sought) {
             Judged::Whole(v, less, _) => Seen::Record(n, v, less),
             Judged::No(m, p) => Seen::No(m, p),
         },

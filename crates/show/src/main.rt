@@ -2,7 +2,7 @@
 ghost use mathlib.Core.Path.{_≡_};
 ghost use lib.ListN.{length};
 use bits::BitPos;
-use read_records::Checked;
+use read_streams::Checked;
 use reading::Refusal;
 
 mod digits;

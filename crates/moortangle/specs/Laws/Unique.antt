@@ -6,13 +6,15 @@ use lib.IntN.{ℤ}
 use Rattle.format.specs.Kinds.{Family}
 use Rattle.format.specs.Reading.{LooksUp, Searches, Checks}
 use Rattle.format.specs.Laws.Reading.{reads-one, looks-up-one, searches-one, checks-one}
-use Rattle.read_records.specs.Told.{itemOf, lookedUp, lookedUpCorrection, searched, checked}
-use Rattle.read_records.specs.Laws.Answers.{item-same, looked-up-same, correction-same, searched-same, checked-same}
+use Rattle.read_records.specs.Told.{itemOf, lookedUp, lookedUpCorrection, searched}
+use Rattle.read_records.specs.Laws.Answers.{item-same, looked-up-same, correction-same, searched-same}
 use Rattle.read_records.specs.declared.Read.{Read}
 use Rattle.read_records.specs.declared.LookedUp.{LookedUp}
 use Rattle.read_records.specs.declared.LookedUpCorrection.{LookedUpCorrection}
 use Rattle.read_records.specs.declared.Searched.{Searched}
-use Rattle.read_records.specs.declared.Checked.{Checked}
+use Rattle.read_streams.specs.Told.{checked}
+use Rattle.read_streams.specs.Laws.Same.{checked-same}
+use Rattle.read_streams.specs.declared.Checked.{Checked}
 use Rattle.moortangle.specs.Reads.{ReadsInto}
 
 module _ (bytes : List ℕ) (start stop : ℕ) where

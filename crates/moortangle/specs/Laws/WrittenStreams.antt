@@ -23,11 +23,13 @@ use Rattle.format.specs.Laws.Reading.{reads-one, checks-one}
 use Rattle.format.specs.Laws.Outcomes.{accepted-reads}
 use Rattle.format.specs.Laws.Streams.{stream-checks}
 use Rattle.bits.specs.declared.BitPos.{BitPos}
-use Rattle.read_records.specs.Told.{itemOf, checked}
-use Rattle.read_records.specs.Laws.Answers.{item-same, checked-same}
+use Rattle.read_records.specs.Told.{itemOf}
+use Rattle.read_records.specs.Laws.Answers.{item-same}
 use Rattle.read_records.specs.declared.Read.the-variants as OfRead
-use Rattle.read_records.specs.declared.Checked.{Checked}
-use Rattle.read_records.specs.declared.Checked.the-variants as OfChecked
+use Rattle.read_streams.specs.Told.{checked}
+use Rattle.read_streams.specs.Laws.Same.{checked-same}
+use Rattle.read_streams.specs.declared.Checked.{Checked}
+use Rattle.read_streams.specs.declared.Checked.the-variants as OfChecked
 use Rattle.moortangle.specs.declared.Wrote.the-variants.{Done}
 use Rattle.moortangle.specs.Calls.{Call, WrittenInTurn, then, valuesOf, ReadInTurn}
 use Rattle.moortangle.specs.Wrote.{outcomeOf}

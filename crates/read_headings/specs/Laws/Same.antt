@@ -12,7 +12,7 @@ use Rattle.format.specs.Records.{Asked, codeField}
 use Rattle.format.specs.Reading.{NoEnd}
 use Rattle.format.specs.Laws.Kinds.{kind-one}
 use Rattle.format.specs.Laws.Records.{code-one, parameter-sound, count-sound}
-use Rattle.bits.specs.Cursor.{Within}
+use Rattle.bits.specs.Cursor.{Within, left}
 use Rattle.bits.specs.declared.Cursor.{Cursor}
 use Rattle.headings.specs.Laws.Same.{heading-one}
 use Rattle.headings.specs.declared.Heading.{Heading}
@@ -37,6 +37,9 @@ heading-sound q =
 pub heading-no-end : (q : Asked) {w r : List Bool} {a : Records.Code × (Kinds.Kind × (ℕ × (ℕ × Unit {0})))} → Takes (headingFor q) w a r → NoEnd w
 unfolding headingFor
 heading-no-end q {a = a} t = code-no-end {x = a .0} (record { valid = t .valid .0; front = t .front ∙ append-assoc (codeField .bits (a .0)) _ _ })
+
+pub headed-no-end : {q : Asked} {s : List ℕ} {c : Cursor} {h : Heading} {n : ℕ} {d : Cursor} → Headed q s c h n d → NoEnd (left c s)
+headed-no-end {q} k = heading-no-end q (k .taken .takes)
 
 ended-one : {s : List ℕ} {c d e : Cursor} → Ended s c d → Ended s c e → d ≡ e
 ended-one t u = taken-one (fixed-sound 4) (ended-zero t) (ended-zero u) .1

@@ -1,5 +1,5 @@
 -- A reader's answer is known by the number and the values of document 01 that it stands for.
-use mathlib.Core.Path.{_≡_, sym, ap, ap₂, _∙_}
+use mathlib.Core.Path.{_≡_, sym, ap, _∙_}
 use mathlib.Core.List.{List}
 use Prim.Native.Nat.{ℕ}
 use native.Mathlib.Omega.{arith}
@@ -7,14 +7,10 @@ use lib.IntN.{ℤ}
 use lib.ListN.{length, take}
 use lib.Seq.{length-take-le}
 use Rattle.format.specs.Records.{Record}
-use Rattle.format.specs.Answers.{Outcome, refuses}
-use Rattle.bits.specs.declared.BitPos.{BitPos}
 use Rattle.headings.specs.Laws.Same.{heading-one}
-use Rattle.reading.specs.Refusals.{refusalNumber}
-use Rattle.reading.specs.Laws.Refusals.{refusal-same}
-use Rattle.reading.specs.declared.Refusal.{Refusal}
+use Rattle.reading.specs.Laws.Refusals.{bit-same, refused-same}
 use Rattle.read_headings.specs.Told.{headed}
-use Rattle.read_records.specs.Told.{itemOf, Counted, lookedUp, lookedUpCorrection, searched, checked}
+use Rattle.read_records.specs.Told.{itemOf, Counted, lookedUp, lookedUpCorrection, searched}
 use Rattle.read_records.specs.declared.Read.{Read}
 use Rattle.read_records.specs.declared.Read.the-variants as OfRead
 use Rattle.read_records.specs.declared.LookedUp.{LookedUp}
@@ -23,22 +19,6 @@ use Rattle.read_records.specs.declared.LookedUpCorrection.{LookedUpCorre
 use Rattle.read_records.specs.declared.LookedUpCorrection.the-variants as OfCorrection
 use Rattle.read_records.specs.declared.Searched.{Searched}
 use Rattle.read_records.specs.declared.Searched.the-variants as OfSearched
-use Rattle.read_records.specs.declared.Checked.{Checked}
-use Rattle.read_records.specs.declared.Checked.the-variants as OfChecked
-
--- ---- parts of an answer
-
-told-same : (p q : BitPos) → p .0 ≡ q .0 → p ≡ q
-told-same p q e = ap (λ (n : ℕ). record { 0 = n }) e
-
--- a refusal and the bit told with it
-refused-same : {A B : Type 0} (make : Refusal → BitPos → B) (m n : Refusal) (p q : BitPos) → _≡_ {A = Outcome A} (refuses (refusalNumber m) (p .0)) (refuses (refusalNumber n) (q .0)) → make m p ≡ make n q
-refused-same make m n p q e =
-    let f : refusalNumber m ≡ refusalNumber n = cc in
-    let g : p .0 ≡ q .0 = cc in
-    ap₂ make (refusal-same m n f) (told-same p q g)
-
--- ---- each answer
 
 pub item-same : (a b : Read) (new new′ : List ℤ) → Counted a new → Counted b new′ → itemOf a new ≡ itemOf b new′ → a ≡ b
 item-same (OfRead.Record h n p) (OfRead.Record g m q) new new′ k l e =
@@ -46,11 +26,11 @@ item-same (OfRead.Record h n p) (OfRead.Record g m q) new new′ k l e =
     let o : p .0 ≡ q .0 = cc in
     let c : n ≡ m = sym (length-take-le n new k) ∙ ap (λ (x : Record). length (x .values)) r ∙ length-take-le m new′ l in
     let i = heading-one h g (ap (λ (x : Record). x .code) r) (ap (λ (x : Record). x .parameter) r) (ap (λ (x : Record). x .kind) r) in
-    λ j. OfRead.Record (i j) (c j) (told-same p q o j)
+    λ j. OfRead.Record (i j) (c j) (bit-same p q o j)
 item-same (OfRead.Record h n p) (OfRead.End q) new new′ k l e = let z : _≡_ {A = ℕ} 0 1 = cc in absurd (omega arith)
 item-same (OfRead.Record h n p) (OfRead.Refused m q) new new′ k l e = let z : _≡_ {A = ℕ} 0 1 = cc in absurd (omega arith)
 item-same (OfRead.End p) (OfRead.Record g m q) new new′ k l e = let z : _≡_ {A = ℕ} 0 1 = cc in absurd (omega arith)
-item-same (OfRead.End p) (OfRead.End q) new new′ k l e = let o : p .0 ≡ q .0 = cc in ap OfRead.End (told-same p q o)
+item-same (OfRead.End p) (OfRead.End q) new new′ k l e = let o : p .0 ≡ q .0 = cc in ap OfRead.End (bit-same p q o)
 item-same (OfRead.End p) (OfRead.Refused m q) new new′ k l e = let z : _≡_ {A = ℕ} 0 1 = cc in absurd (omega arith)
 item-same (OfRead.Refused n p) (OfRead.Record g m q) new new′ k l e = let z : _≡_ {A = ℕ} 0 1 = cc in absurd (omega arith)
 item-same (OfRead.Refused n p) (OfRead.End q) new new′ k l e = let z : _≡_ {A = ℕ} 0 1 = cc in absurd (omega arith)
@@ -73,11 +53,3 @@ searched-same (OfSearched.Below v) (OfSearched.Below u) e = let f : v ≡ u = cc
 searched-same (OfSearched.Below v) (OfSearched.Refused m q) e = let z : _≡_ {A = ℕ} 0 1 = cc in absurd (omega arith)
 searched-same (OfSearched.Refused n p) (OfSearched.Below u) e = let z : _≡_ {A = ℕ} 0 1 = cc in absurd (omega arith)
 searched-same (OfSearched.Refused n p) (OfSearched.Refused m q) e = refused-same OfSearched.Refused n m p q e
-
-pub checked-same : (a b : Checked) → checked a ≡ checked b → a ≡ b
-checked-same (OfChecked.Stream i v) (OfChecked.Stream j u) e =
-    let f : _≡_ {A = ℕ × ℕ} (i, v) (j, u) = cc in
-    ap₂ OfChecked.Stream (ap (λ (x : ℕ × ℕ). x .0) f) (ap (λ (x : ℕ × ℕ). x .1) f)
-checked-same (OfChecked.Stream i v) (OfChecked.Refused m q) e = let z : _≡_ {A = ℕ} 0 1 = cc in absurd (omega arith)
-checked-same (OfChecked.Refused n p) (OfChecked.Stream j u) e = let z : _≡_ {A = ℕ} 0 1 = cc in absurd (omega arith)
-checked-same (OfChecked.Refused n p) (OfChecked.Refused m q) e = refused-same OfChecked.Refused n m p q e

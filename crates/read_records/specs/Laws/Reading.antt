@@ -2,7 +2,7 @@
 use mathlib.Core.Path.{_≡_, refl, sym, ap, _∙_, subst, subst₂}
 use mathlib.Core.Bool.{Bool}
 use mathlib.Core.List.{List, [], _∷_, _++_, map}
-use Prim.Native.Nat.{ℕ, zero, suc, _+_, _-_, _≤_, _<_}
+use Prim.Native.Nat.{ℕ, zero, suc, _≤_, _<_}
 use native.Mathlib.Omega.{arith}
 use lib.IntN.{ℤ, pos}
 use lib.ListN.{length, getD, take, drop, length-append, length-map}
@@ -10,36 +10,26 @@ use lib.Seq.{take-at}
 use Rattle.layout.specs.Layout.{Layout, Takes}
 use Rattle.format.specs.Kinds.{Kind, Family, familyOf}
 use Rattle.format.specs.Records.{Record, Asked, This, recordFor}
-use Rattle.format.specs.Answers.{refuses, gives, toldBit}
+use Rattle.format.specs.Answers.{refuses, gives}
 use Rattle.format.specs.Reading as Reading
 use Rattle.format.specs.Reading.{NoEnd, listed, Reader, LookUp, Search, below}
-use Rattle.format.specs.Laws.Bodies.{body-list}
 use Rattle.bits.specs.Cursor.{Within, left, to, Taken, Refuses}
-use Rattle.bits.specs.Laws.Cursor.{length-left}
 use Rattle.bits.specs.declared.BitPos.{BitPos}
 use Rattle.bits.specs.declared.Cursor.{Cursor}
-use Rattle.headings.specs.Headings.{codeOf, carried, kindOf}
 use Rattle.headings.specs.declared.Heading.{Heading}
 use Rattle.reading.specs.Refusals.{refusalNumber}
-use Rattle.reading.specs.Laws.Steps.{told-at}
+use Rattle.reading.specs.Laws.Steps.{told-at, at-bit}
 use Rattle.reading.specs.declared.Refusal.{Refusal}
-use Rattle.read_headings.specs.Told.{bodyOf, headed, Legal, Ended, Headed}
-use Rattle.read_headings.specs.Laws.Same.{heading-no-end}
-use Rattle.read_records.specs.Bodies.{HeadingFor}
+use Rattle.read_headings.specs.Told.{bodyOf, headed, Ended, Headed}
+use Rattle.read_headings.specs.Laws.Same.{headed-no-end}
+use Rattle.read_bodies.specs.Bodies.{HeadingFor}
+use Rattle.read_bodies.specs.Laws.Bodies.{counted-values}
 use Rattle.read_records.specs.Told as Told
 use Rattle.read_records.specs.Told.{ToldRead, ToldListed, ToldSeen}
 use Rattle.read_records.specs.declared.Read.{Read}
 use Rattle.read_records.specs.declared.Read.the-variants as OfRead
 use Rattle.read_records.specs.declared.Seen.{Seen}
 use Rattle.read_records.specs.declared.Seen.the-variants as OfSeen
-
--- the bit after what was taken
-pub at-bit : (s : List ℕ) (c d : Cursor) → Within d (length s) → d .stop ≡ c .stop → d .at .0 ≡ toldBit (c .stop .0) (left d s)
-at-bit s c d w e =
-    let n = length-left s d w in
-    let o = w .order in
-    let f : d .stop .0 ≡ c .stop .0 = ap (λ (p : BitPos). p .0) e in
-    omega arith
 
 module _ {q : Asked} {s : List ℕ} {c : Cursor} (w : Within c (length s)) where
   pub reads-list : {a : Record} {d : Cursor} → Taken (recordFor q) s c a d → Reader q (c .stop .0) (left c s) (gives (listed a (d .at .0)))
@@ -56,10 +46,6 @@ module _ {q : Asked} {s : List ℕ} {c : Cursor} (w : Within c (length s)) where
 
 -- ---- after a heading
 
--- a heading begins with its code, which no end mark has
-pub headed-no-end : {q : Asked} {s : List ℕ} {c : Cursor} {h : Heading} {n : ℕ} {d : Cursor} → Headed q s c h n d → NoEnd (left c s)
-headed-no-end {q} k = heading-no-end q (k .taken .takes)
-
 pub headed-for : {t : Kind} {room : ℕ} {s : List ℕ} {c : Cursor} {h : Heading} {n : ℕ} {d : Cursor} → Headed (record { wanted = This t; room = room }) s c h n d → HeadingFor (familyOf t) h
 headed-for k = record { fine = record { parameter = k .legal .parameter; instants = k .legal .instants }; family = ap familyOf (k .legal .wanted) }
 
@@ -70,10 +56,6 @@ fronted : (vs old new : List ℤ) (n : ℕ) → length vs ≡ n → new ≡ vs +
 fronted vs old new n e f =
     let l = ap length f ∙ length-append vs (drop (length vs) old) in
     (ap (take n) f ∙ take-at vs (drop (length vs) old) n e, omega arith)
-
--- as many values as the heading's count says
-pub counted-values : {q : Asked} {h : Heading} {n : ℕ} → Legal q h n → {s : List ℕ} {c d : Cursor} {vs : List ℤ} → Taken (bodyOf h n) s c vs d → length vs ≡ n
-counted-values {h = h} {n = n} l {vs = vs} t = body-list (codeOf (h .code)) (carried (h .code)) (kindOf (h .kind)) n vs (l .instants) (t .takes .valid) .0
 
 -- what the reader of a kind into a lent list asks for
 abbrev pub askedInto : Kind → List ℤ → Asked

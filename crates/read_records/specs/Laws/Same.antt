@@ -6,17 +6,15 @@ use Prim.Native.Nat.{ℕ}
 use lib.IntN.{ℤ}
 use Rattle.format.specs.Kinds.{Kind}
 use Rattle.format.specs.Records.{Asked}
-use Rattle.format.specs.Reading as Reading
-use Rattle.format.specs.Reading.{filled, LookUp, Search, Check}
-use Rattle.format.specs.Laws.Reading.{reader-one, look-up-one, search-one, check-one}
+use Rattle.format.specs.Reading.{filled, LookUp, Search}
+use Rattle.format.specs.Laws.Reading.{reader-one, look-up-one, search-one}
 use Rattle.bits.specs.declared.Cursor.{Cursor}
-use Rattle.read_records.specs.Told.{itemOf, lookedUp, lookedUpCorrection, searched, checked, ToldRead}
-use Rattle.read_records.specs.Laws.Answers.{item-same, looked-up-same, correction-same, searched-same, checked-same}
+use Rattle.read_records.specs.Told.{lookedUp, lookedUpCorrection, searched, ToldRead}
+use Rattle.read_records.specs.Laws.Answers.{item-same, looked-up-same, correction-same, searched-same}
 use Rattle.read_records.specs.declared.Read.{Read}
 use Rattle.read_records.specs.declared.LookedUp.{LookedUp}
 use Rattle.read_records.specs.declared.LookedUpCorrection.{LookedUpCorrection}
 use Rattle.read_records.specs.declared.Searched.{Searched}
-use Rattle.read_records.specs.declared.Checked.{Checked}
 
 pub read-same : {t : Kind} {s : List ℕ} {c : Cursor} {old new new′ : List ℤ} {r q : Read} → ToldRead t s c old new r → ToldRead t s c old new′ q → (r ≡ q) × (new ≡ new′)
 read-same {old = old} {new = new} {new′ = new′} {r = r} {q = q} x y =
@@ -32,6 +30,3 @@ module _ {q : Asked} {stop : ℕ} {w : List Bool} where
 
   pub search-same : {sought : ℕ} (a b : Searched) → Search sought q stop w (searched a) → Search sought q stop w (searched b) → a ≡ b
   search-same a b x y = searched-same a b (search-one x y)
-
-pub check-same : {stop : ℕ} {w : List Bool} (a b : Checked) → Check stop (checked a) w 0 0 → Check stop (checked b) w 0 0 → a ≡ b
-check-same a b x y = checked-same a b (check-one x y)

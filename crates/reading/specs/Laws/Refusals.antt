@@ -1,8 +1,10 @@
--- A refusal is known by its number.
-use mathlib.Core.Path.{_≡_, refl, sym, ap, _∙_}
+-- A refusal is known by its number, and with the bit that it tells by what document 01 says of both.
+use mathlib.Core.Path.{_≡_, refl, sym, ap, ap₂, _∙_}
 use mathlib.Core.List.{[], _∷_}
 use Prim.Native.Nat.{ℕ, _-_}
 use lib.ListN.{getD}
+use Rattle.format.specs.Answers.{Outcome, refuses}
+use Rattle.bits.specs.declared.BitPos.{BitPos}
 use Rattle.reading.specs.Refusals.{refusalNumber}
 use Rattle.reading.specs.declared.Refusal.{Refusal}
 use Rattle.reading.specs.declared.Refusal.the-variants.{NoRoom, CutShort, Unknown, TooMany, BadWord, OutOfRange, Unclean, Outside, Beyond}
@@ -24,3 +26,13 @@ back-is Beyond = refl
 
 pub refusal-same : (a b : Refusal) → refusalNumber a ≡ refusalNumber b → a ≡ b
 refusal-same a b e = sym (back-is a) ∙ ap back e ∙ back-is b
+
+pub bit-same : (p q : BitPos) → p .0 ≡ q .0 → p ≡ q
+bit-same p q e = ap (λ (n : ℕ). record { 0 = n }) e
+
+-- a refusal and the bit told with it
+pub refused-same : {A B : Type 0} (make : Refusal → BitPos → B) (m n : Refusal) (p q : BitPos) → _≡_ {A = Outcome A} (refuses (refusalNumber m) (p .0)) (refuses (refusalNumber n) (q .0)) → make m p ≡ make n q
+refused-same make m n p q e =
+    let f : refusalNumber m ≡ refusalNumber n = cc in
+    let g : p .0 ≡ q .0 = cc in
+    ap₂ make (refusal-same m n f) (bit-same p q g)

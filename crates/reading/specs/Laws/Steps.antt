@@ -8,6 +8,7 @@ use lib.ListN.{length}
 use Rattle.layout.specs.Bits.{window}
 use Rattle.layout.specs.Layout.{Layout, known, BindNo, first, second, bind, field, value, only, made}
 use Rattle.layout.specs.Laws.Sound.{Sound, takes-one}
+use Rattle.format.specs.Answers.{toldBit}
 use Rattle.bits.specs.Cursor.{Within, left, to, Taken, Refuses}
 use Rattle.bits.specs.Laws.Cursor.{length-left}
 use Rattle.bits.specs.Laws.Same.{same-place}
@@ -78,4 +79,12 @@ module _ {A : Type 0} {L : Layout A} (l : Sound L) {s : List ℕ} {c : Cursor} w
 pub told-at : (s : List ℕ) (c : Cursor) (p : BitPos) → Within c (length s) → p .0 ≤ c .stop .0 → p .0 ≡ c .stop .0 - length (left (to c p) s)
 told-at s c p w h =
     let n = length-left s (to c p) (record { order = h; inside = w .inside; small = w .small }) in
+    omega arith
+
+-- and the bit after what was taken is the one that the bits left begin with
+pub at-bit : (s : List ℕ) (c d : Cursor) → Within d (length s) → d .stop ≡ c .stop → d .at .0 ≡ toldBit (c .stop .0) (left d s)
+at-bit s c d w e =
+    let n = length-left s d w in
+    let o = w .order in
+    let f : d .stop .0 ≡ c .stop .0 = ap (λ (p : BitPos). p .0) e in
     omega arith

@@ -1,6 +1,6 @@
 use mathlib.Core.Path.{ap, subst}
 use Rattle.format.specs.Reading.{Checks}
-use Rattle.read_records.specs.Told.{checked}
+use Rattle.read_streams.specs.Told.{checked}
 use Rattle.show.specs.Laws.Next.{goes-first}
 use borrow.Author.Needs.{needs}
 use Rattle.show.proofs.show.Statement.{statement}

@@ -1,5 +1,5 @@
-use Rattle.read_records.specs.declared.Checked.{Checked}
-use Rattle.read_records.specs.Told.{checked}
+use Rattle.read_streams.specs.declared.Checked.{Checked}
+use Rattle.read_streams.specs.Told.{checked}
 use Rattle.moortangle_c.specs.Flat.{flatStream}
 use mathlib.Core.Path.{sym, ap, ap₂, _∙_}
 use Prim.Native.Nat.{ℕ}

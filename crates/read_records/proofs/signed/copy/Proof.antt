@@ -5,7 +5,7 @@ use lib.IntN.{ℤ, pos}
 use lib.ListN.{length, getD, take, drop, set, length-set}
 use mir.Facts.{toZ-ofZ}
 use mir.Syntax.{w32}
-use Rattle.read_records.specs.Laws.Bodies.{copied-more}
+use Rattle.read_records.specs.Laws.Copied.{copied-more}
 use borrow.Author.Needs.{needs, sfits-of}
 use native.Mathlib.Omega.{arith}
 use Rattle.read_records.proofs.signed.copy.Statement.{statement}

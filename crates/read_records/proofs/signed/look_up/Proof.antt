@@ -19,8 +19,8 @@ read-requires c κs = search needs
 enum-known-h : tie.Need-enum-known-h
 enum-known-h c = search needs
 
-judge-body-requires : tie.Need-judge-body-requires
-judge-body-requires c κs =
+judge-requires : tie.Need-judge-requires
+judge-requires c κs =
     let k = was-body (c .before .before .before .read .ensures) (c .before .h .given .1) in
     (k .reached .within, headed-for k, k .legal .count)
 
@@ -30,7 +30,7 @@ enum-known-v c = search needs
 returns : tie.Need-returns
 returns c =
     let k = was-body (c .before .before .before .before .before .before .before .before .read .ensures) (c .before .before .before .before .before .before .h .given .1) in
-    let w = were-whole (c .before .before .before .before .judge-body .ensures) (c .before .before .v .given .1) in
+    let w = were-whole (c .before .before .before .before .judge .ensures) (c .before .before .v .given .1) in
     let fits : SFits w32 (c .before .before .v .given .0 .0) = record { sfits = c .before .known-told2 .given .0 .1 } in
     rw (toZ-ofZ fits) (found-correction k (w .1) (w .2) (omega (arith, c .if1 .taken)))
 
@@ -52,7 +52,7 @@ enum-known-m-2 c = search needs
 returns-2 : tie.Need-returns-2
 returns-2 c =
     let k = was-body (c .before .before .before .before .before .before .before .before .before .read .ensures) (c .before .before .before .before .before .before .before .h .given .1) in
-    let w = were-whole (c .before .before .before .before .before .judge-body .ensures) (c .before .before .before .v .given .1) in
+    let w = were-whole (c .before .before .before .before .before .judge .ensures) (c .before .before .before .v .given .1) in
     beyond-correction k (w .1) (omega (arith, c .before .if1 .left)) (c .new .ensures)
 
 returns-3 : tie.Need-returns-3
@@ -60,7 +60,7 @@ returns-3 c =
     let g = c .before .before .before .before .before .h .given in
     let k = was-body (c .before .before .before .before .before .before .before .read .ensures) (g .1) in
     let m = c .before .m .given .0 in
-    finds-no (c .before .before .before .before .before .before .before .before .before .pre) (k .reached .no (refusalNumber (m .0)) (m .1 .0) (were-no (c .before .before .before .judge-body .ensures) (c .before .m .given .1)))
+    finds-no (c .before .before .before .before .before .before .before .before .before .pre) (k .reached .no (refusalNumber (m .0)) (m .1 .0) (were-no (c .before .before .before .judge .ensures) (c .before .m .given .1)))
 
 returns-4 : tie.Need-returns-4
 returns-4 c =
@@ -77,7 +77,7 @@ look-up-spec =
     (tie.spec
     read-requires
     enum-known-h
-    judge-body-requires
+    judge-requires
     enum-known-v
     returns
     new-requires

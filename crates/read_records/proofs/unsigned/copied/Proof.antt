@@ -1,14 +1,14 @@
 use mathlib.Core.Path.{refl}
 use Rattle.read_records.specs.Told.{no}
 use Rattle.reading.specs.Laws.Judging.{kept-no}
-use Rattle.read_records.specs.Laws.Bodies.{copied-naturals, listed-kept}
+use Rattle.read_records.specs.Laws.Copied.{copied-naturals, listed-kept}
 use native.Mathlib.Omega.{arith}
 use borrow.Author.Needs.{needs}
 use Rattle.read_records.proofs.unsigned.copied.Statement.{statement}
 use Rattle.read_records.proofs.unsigned.copied.Tie as tie
 
-keep-body-requires : tie.Need-keep-body-requires
-keep-body-requires c κs = search needs
+keep-requires : tie.Need-keep-requires
+keep-requires c κs = search needs
 
 enum-known-d : tie.Need-enum-known-d
 enum-known-d c = search needs
@@ -30,20 +30,20 @@ same-length-2 c = search needs
 
 returns : tie.Need-returns
 returns c =
-    listed-kept (c .before .before .before .before .before .before .before .before .before .before .before .keep-body .ensures) (c .before .before .before .before .before .before .before .d .given .1) (copied-naturals (c .before .before .before .copy .ensures)) (c .at .ensures)
+    listed-kept (c .before .before .before .before .before .before .before .before .before .before .before .keep .ensures) (c .before .before .before .before .before .before .before .d .given .1) (copied-naturals (c .before .before .before .copy .ensures)) (c .at .ensures)
 
 same-length-3 : tie.Need-same-length-3
 same-length-3 c = search needs
 
 returns-2 : tie.Need-returns-2
 returns-2 c =
-    no (kept-no (c .before .before .before .before .before .keep-body .ensures) (c .before .m .given .1)) refl
+    no (kept-no (c .before .before .before .before .before .keep .ensures) (c .before .m .given .1)) refl
 
 pub copied-spec : {M : Type 1} → statement M
 copied-spec =
     tie.close
     (tie.spec
-    keep-body-requires
+    keep-requires
     enum-known-d
     copy-requires
     at-requires

@@ -2,7 +2,7 @@ use mathlib.Core.Path.{_≡_, refl, ap, _∙_}
 use mathlib.Core.List.{List, _++_}
 use Prim.Native.Nat.{ℕ, _-_, _≤_}
 use lib.ListN.{length, getD, take, drop, set, length-set}
-use Rattle.read_records.specs.Laws.Bodies.{copied-more}
+use Rattle.read_records.specs.Laws.Copied.{copied-more}
 use borrow.Author.Needs.{needs}
 use native.Mathlib.Omega.{arith}
 use Rattle.read_records.proofs.unsigned.copy.Statement.{statement}

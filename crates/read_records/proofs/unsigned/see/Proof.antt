@@ -17,8 +17,8 @@ read-requires c κs = search needs
 enum-known-h : tie.Need-enum-known-h
 enum-known-h c = search needs
 
-judge-body-requires : tie.Need-judge-body-requires
-judge-body-requires c κs =
+judge-requires : tie.Need-judge-requires
+judge-requires c κs =
     let k = was-body (c .before .before .before .read .ensures) (c .before .h .given .1) in
     (k .reached .within, for-family (headed-for k) (c .before .before .before .before .before .pre .1), k .legal .count)
 
@@ -40,14 +40,14 @@ enum-known-m-2 c = search needs
 returns : tie.Need-returns
 returns c =
     let k = was-body (c .before .before .before .before .before .before .before .read .ensures) (c .before .before .before .before .before .h .given .1) in
-    let w = was-whole (c .before .before .before .judge-body .ensures) (c .before .v .given .1) in
+    let w = was-whole (c .before .before .before .judge .ensures) (c .before .v .given .1) in
     seen-whole k (w .0) (w .1) (w .2) (w .3)
 
 returns-2 : tie.Need-returns-2
 returns-2 c =
     let k = was-body (c .before .before .before .before .before .before .before .read .ensures) (c .before .before .before .before .before .h .given .1) in
     let m = c .before .m .given .0 in
-    no (k .reached .no (refusalNumber (m .0)) (m .1 .0) (was-no (c .before .before .before .judge-body .ensures) (c .before .m .given .1)))
+    no (k .reached .no (refusalNumber (m .0)) (m .1 .0) (was-no (c .before .before .before .judge .ensures) (c .before .m .given .1)))
 
 returns-3 : tie.Need-returns-3
 returns-3 c =
@@ -64,7 +64,7 @@ see-spec =
     (tie.spec
     read-requires
     enum-known-h
-    judge-body-requires
+    judge-requires
     enum-known-v
     enum-known-m
     enum-told

@@ -1,0 +1,3 @@
+pub mod Told
+pub mod Streams
+pub mod Laws
