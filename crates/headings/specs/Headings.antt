@@ -1,7 +1,9 @@
 -- Which of document 01's codes and kinds a heading means, and what is told of the numbers that a caller gives.
 use mathlib.Core.Path.{_≡_}
 use mathlib.Core.Bool.{Bool, true, false}
+use mathlib.Core.List.{List}
 use Prim.Native.Nat.{ℕ, _≤_}
+use lib.IntN.{ℤ}
 use Rattle.format.specs.Limits.{largestParameter}
 use Rattle.format.specs.Kinds as Kinds
 use Rattle.format.specs.Kinds.{Family, Unsigned, Signed, kindNumber}
@@ -49,6 +51,10 @@ abbrev pub kindOf : Kind → Kinds.Kind
 kindOf Plain = Kinds.Plain
 kindOf Instants = Kinds.Instants
 kindOf Corrections = Kinds.Corrections
+
+-- the record that a heading and a list make
+abbrev pub headed : Heading → List ℤ → Records.Record
+headed h vs = record { code = codeOf (h .code); kind = kindOf (h .kind); parameter = carried (h .code); values = vs }
 
 -- "Plain and instants share one entry, corrections have their own"
 abbrev pub familyIf : Bool → Family

@@ -8,13 +8,13 @@ use Rattle.layout.specs.Layout.{Layout, known, bind}
 use Rattle.format.specs.Limits.{longestList, largestParameter}
 use Rattle.format.specs.Kinds as Kinds
 use Rattle.format.specs.Records as Records
-use Rattle.format.specs.Records.{Record, Wants, Asked, codeField, kindField, parameterField, countField, body, recordFor}
+use Rattle.format.specs.Records.{Wants, Asked, codeField, kindField, parameterField, countField, body, recordFor}
 use Rattle.format.specs.Streams.{endMark}
 use Rattle.format.specs.Reading.{NoEnd}
 use Rattle.bits.specs.Cursor.{Within, left, Taken, Refuses}
 use Rattle.bits.specs.declared.BitPos.{BitPos}
 use Rattle.bits.specs.declared.Cursor.{Cursor}
-use Rattle.headings.specs.Headings.{codeOf, carried, kindOf}
+use Rattle.headings.specs.Headings.{codeOf, carried, kindOf, headed}
 use Rattle.headings.specs.declared.Heading.{Heading}
 use Rattle.reading.specs.Refusals.{refusalNumber}
 use Rattle.reading.specs.Reached.{Reached}
@@ -32,12 +32,9 @@ wantedOf (This t) = Records.This (kindOf t)
 abbrev pub asked : Wanted → ℕ → Asked
 asked w room = record { wanted = wantedOf w; room = room }
 
--- the body that a heading asks for, and the record that it makes of the body's values
+-- the body that a heading asks for
 abbrev pub bodyOf : Heading → ℕ → Layout (List ℤ)
 bodyOf h n = body (codeOf (h .code)) (carried (h .code)) (kindOf (h .kind)) n
-
-abbrev pub headed : Heading → List ℤ → Record
-headed h vs = record { code = codeOf (h .code); kind = kindOf (h .kind); parameter = carried (h .code); values = vs }
 
 -- a heading that is wanted, with a count for which there is room
 pub record Legal (q : Asked) (h : Heading) (n : ℕ) : Type 0 where

@@ -11,10 +11,11 @@ use Rattle.format.specs.Reading.{Item, listed, ended, Reader, filled, below}
 use Rattle.bits.specs.Cursor.{left, Taken, Refuses}
 use Rattle.bits.specs.declared.BitPos.{BitPos}
 use Rattle.bits.specs.declared.Cursor.{Cursor}
+use Rattle.headings.specs.Headings.{headed}
 use Rattle.headings.specs.declared.Heading.{Heading}
 use Rattle.reading.specs.Refusals.{refusalNumber}
 use Rattle.reading.specs.declared.Refusal.{Refusal}
-use Rattle.read_headings.specs.Told.{bodyOf, headed}
+use Rattle.read_headings.specs.Told.{bodyOf}
 use Rattle.read_records.specs.declared.Read.{Read}
 use Rattle.read_records.specs.declared.Read.the-variants as OfRead
 use Rattle.read_records.specs.declared.LookedUp.{LookedUp}

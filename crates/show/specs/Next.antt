@@ -14,10 +14,9 @@ use Rattle.format.specs.Streams.{endMark}
 use Rattle.format.specs.Answers.{gives}
 use Rattle.format.specs.Reading.{Check}
 use Rattle.bits.specs.declared.BitPos.{BitPos}
-use Rattle.headings.specs.Headings.{kindOf}
+use Rattle.headings.specs.Headings.{kindOf, headed}
 use Rattle.headings.specs.declared.Heading.{Heading}
 use Rattle.reading.specs.Refusals.{refusalNumber}
-use Rattle.read_headings.specs.Told.{headed}
 use Rattle.read_records.specs.declared.Read.{Read}
 use Rattle.read_records.specs.declared.Read.the-variants.{Record, End, Refused}
 

@@ -6,12 +6,11 @@ use lib.IntN.{ℤ, pos}
 use Rattle.format.specs.Kinds.{Family, Unsigned, Signed, familyOf}
 use Rattle.format.specs.Records.{Valid}
 use Rattle.headings.specs.declared.Heading.{Heading}
-use Rattle.headings.specs.Headings.{kindOf}
-use Rattle.write_records.specs.Images.{recordOf}
+use Rattle.headings.specs.Headings.{kindOf, headed}
 
 -- a valid record of a family
 pub record ValidFor (f : Family) (h : Heading) (vs : List ℤ) : Type 0 where
-  pub valid : Valid (recordOf h vs)
+  pub valid : Valid (headed h vs)
   pub family : familyOf (kindOf (h .kind)) ≡ f
 
 abbrev pub UnsignedRecord : Heading → List ℕ → Type 0

@@ -7,16 +7,12 @@ use lib.ListN.{length}
 use Rattle.layout.specs.Bits.{inBits}
 use Rattle.format.specs.Codes.{gamma}
 use Rattle.format.specs.Kinds.{kindNumber}
-use Rattle.format.specs.Records.{codeNumber, Record, body, anyRecord}
-use Rattle.headings.specs.Headings.{codeOf, carried, carriedWidth, kindOf}
+use Rattle.format.specs.Records.{codeNumber, body, anyRecord}
+use Rattle.headings.specs.Headings.{codeOf, carried, carriedWidth, kindOf, headed}
 use Rattle.headings.specs.declared.Heading.{Heading}
 
--- the record that a heading and a list make
-abbrev pub recordOf : Heading → List ℤ → Record
-recordOf h vs = record { code = codeOf (h .code); kind = kindOf (h .kind); parameter = carried (h .code); values = vs }
-
 unfoldable pub recordImage : Heading → List ℤ → List Bool
-recordImage h vs = anyRecord .bits (recordOf h vs)
+recordImage h vs = anyRecord .bits (headed h vs)
 
 -- "code number in 4 bits; kind in 2; for Rice k in 5;"
 unfoldable pub front : Heading → List Bool

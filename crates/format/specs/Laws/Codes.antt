@@ -15,7 +15,7 @@ use Rattle.layout.specs.Dead.{Dies}
 use Rattle.layout.specs.Laws.Beginnings.{Splits, then, implies, splits-free}
 use Rattle.layout.specs.Laws.Bits.{inBits-splits}
 use Rattle.layout.specs.Laws.Deciding.{Searchable, up-to, both?}
-use Rattle.layout.specs.Laws.Words.{Decides, decides, bad-where-dead}
+use Rattle.layout.specs.Laws.Words.{bad-where-dead}
 use Rattle.format.specs.Limits.{largestWord}
 use Rattle.format.specs.Codes.{Word, digits, size, binary, gamma, delta, rice, groups, variableByte}
 use Rattle.format.specs.Laws.Digits.{Held, digits-held, digits-le}
@@ -33,9 +33,6 @@ pub one-word : Word 1
 one-word = (omega arith, omega arith)
 
 -- so, whatever the code, every list of bits is taken, cut short, or dead at one bit, and it is answered 9 exactly where it is dead
-pub code-decides : (image : ℕ → List Bool) (w : List Bool) → Decides Word image w
-code-decides image w = decides image words-search 1 one-word w
-
 pub nine-where-dead : (image : ℕ → List Bool) → PrefixFree Word image → (w : List Bool) → WordNo Word image w 9 w ↔ ((u : List Bool) × Dies Word image w u)
 nine-where-dead image free w = bad-where-dead image free words-search 1 one-word w
 

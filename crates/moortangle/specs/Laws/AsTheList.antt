@@ -18,8 +18,8 @@ use Rattle.format.specs.Reading.{LooksUp, below, Searches}
 use Rattle.format.specs.Laws.Reading.{looks-up-one, searches-one}
 use Rattle.format.specs.Laws.Outcomes.{looks-up-listed, looks-up-beyond, searches-listed}
 use Rattle.bits.specs.declared.BitPos.{BitPos}
+use Rattle.headings.specs.Headings.{headed}
 use Rattle.headings.specs.declared.Heading.{Heading}
-use Rattle.read_headings.specs.Told.{headed}
 use Rattle.read_records.specs.declared.Read.the-variants as OfRead
 use Rattle.moortangle.specs.Reads.{ReadsInto}
 

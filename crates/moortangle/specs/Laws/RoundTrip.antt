@@ -19,9 +19,8 @@ use Rattle.format.specs.Laws.Reading.{reads-one}
 use Rattle.format.specs.Laws.Outcomes.{Accepted, reads-accepted}
 use Rattle.format.specs.Laws.Round.{Holds, WrittenBits, written-bits, reads-back}
 use Rattle.bits.specs.declared.BitPos.{BitPos}
-use Rattle.headings.specs.Headings.{codeOf, carried}
+use Rattle.headings.specs.Headings.{codeOf, carried, headed}
 use Rattle.headings.specs.declared.Heading.{Heading}
-use Rattle.read_headings.specs.Told.{headed}
 use Rattle.read_records.specs.Told.{itemOf}
 use Rattle.read_records.specs.declared.Read.{Read}
 use Rattle.read_records.specs.declared.Read.the-variants as OfRead

@@ -31,9 +31,9 @@ use Rattle.read_streams.specs.Laws.Same.{checked-same}
 use Rattle.read_streams.specs.declared.Checked.{Checked}
 use Rattle.read_streams.specs.declared.Checked.the-variants as OfChecked
 use Rattle.moortangle.specs.declared.Wrote.the-variants.{Done}
-use Rattle.moortangle.specs.Calls.{Call, WrittenInTurn, then, valuesOf, ReadInTurn}
+use Rattle.moortangle.specs.Calls.{Call, WrittenInTurn, valuesOf, ReadInTurn}
 use Rattle.moortangle.specs.Wrote.{outcomeOf}
-use Rattle.moortangle.specs.Laws.InTurn.{AskInTurn, InARow, leaves, in-a-row, all-valid}
+use Rattle.moortangle.specs.Laws.InTurn.{AskInTurn, InARow, in-a-row, all-valid}
 
 -- ---- writes from bit 0, then the end mark: a stream
 

@@ -16,9 +16,8 @@ use Rattle.format.specs.Laws.Reading.{reads-one, looks-up-one, searches-one, ch
 use Rattle.format.specs.Laws.Writing.{writes-one, writes-end-one}
 use Rattle.format.specs.Laws.Outcomes.{reads-accepted}
 use Rattle.bits.specs.declared.BitPos.{BitPos}
-use Rattle.headings.specs.Headings.{codeOf, carried, kindOf}
+use Rattle.headings.specs.Headings.{codeOf, carried, kindOf, headed}
 use Rattle.headings.specs.declared.Heading.{Heading}
-use Rattle.read_headings.specs.Told.{headed}
 use Rattle.read_records.specs.Told.{itemOf, Counted}
 use Rattle.read_records.specs.declared.Read.{Read}
 use Rattle.read_records.specs.declared.Read.the-variants as OfRead

@@ -2,7 +2,7 @@
 use mathlib.Core.Path.{_≡_, sym, ap, ap₂, _∙_}
 use mathlib.Core.Logic.{_⊎_, inl, inr}
 use mathlib.Core.List.{List}
-use Prim.Native.Nat.{ℕ, _+_, _-_, _*_, _/_, _≤_, _<_}
+use Prim.Native.Nat.{ℕ, _+_, _-_, _/_, _<_}
 use native.Mathlib.Omega.{arith}
 use lib.ListN.{length}
 use Rattle.layout.specs.Layout.{Layout}
@@ -10,7 +10,6 @@ use Rattle.layout.specs.Laws.Sound.{Sound}
 use Rattle.format.specs.Interpolative.{offset}
 use Rattle.format.specs.Laws.Parts.{offset-sound}
 use Rattle.bits.specs.Cursor.{Within, left, to}
-use Rattle.bits.specs.declared.BitPos.{BitPos}
 use Rattle.bits.specs.declared.Cursor.{Cursor}
 use Rattle.reading.specs.Laws.Steps.{no-taken, taken-one, told-at}
 use Rattle.read_interpolative.specs.Parts.{cursor, refusedAt, ToldNext, goes, halts, ToldMiddle}

@@ -16,11 +16,12 @@ use Rattle.format.specs.Reading.{NoEnd, listed, Reader, LookUp, Search, below}
 use Rattle.bits.specs.Cursor.{Within, left, to, Taken, Refuses}
 use Rattle.bits.specs.declared.BitPos.{BitPos}
 use Rattle.bits.specs.declared.Cursor.{Cursor}
+use Rattle.headings.specs.Headings.{headed}
 use Rattle.headings.specs.declared.Heading.{Heading}
 use Rattle.reading.specs.Refusals.{refusalNumber}
 use Rattle.reading.specs.Laws.Steps.{told-at, at-bit}
 use Rattle.reading.specs.declared.Refusal.{Refusal}
-use Rattle.read_headings.specs.Told.{bodyOf, headed, Ended, Headed}
+use Rattle.read_headings.specs.Told.{bodyOf, Ended, Headed}
 use Rattle.read_headings.specs.Laws.Same.{headed-no-end}
 use Rattle.read_bodies.specs.Bodies.{HeadingFor}
 use Rattle.read_bodies.specs.Laws.Bodies.{counted-values}

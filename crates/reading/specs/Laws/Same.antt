@@ -1,6 +1,6 @@
 -- Two answers that satisfy a contract of what judges or keeps a list are equal, whatever sound layout the list has.
 use mathlib.Core.Path.{_≡_, sym, ap, _∙_}
-use mathlib.Core.List.{List, _++_, map}
+use mathlib.Core.List.{List, _++_}
 use Prim.Native.Nat.{ℕ}
 use native.Mathlib.Omega.{arith}
 use lib.IntN.{ℤ, pos}
@@ -8,7 +8,7 @@ use lib.ListN.{length, getD, drop}
 use Rattle.layout.specs.Layout.{Layout}
 use Rattle.layout.specs.Laws.Sound.{Sound}
 use Rattle.format.specs.Reading.{below}
-use Rattle.bits.specs.Cursor.{Within, left, to, Taken, Refuses}
+use Rattle.bits.specs.Cursor.{Within, left, to, Refuses}
 use Rattle.bits.specs.declared.BitPos.{BitPos}
 use Rattle.bits.specs.declared.Cursor.{Cursor}
 use Rattle.reading.specs.Refusals.{refusalNumber}

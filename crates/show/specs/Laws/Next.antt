@@ -27,10 +27,9 @@ use Rattle.format.specs.Laws.Marks.{takes-no-end, takes-shorter}
 use Rattle.format.specs.Laws.Reading.{told-one, reads-one}
 use Rattle.format.specs.Laws.Outcomes.{reads-accepted, accepted-reads}
 use Rattle.bits.specs.declared.BitPos.{BitPos}
-use Rattle.headings.specs.Headings.{kindOf}
+use Rattle.headings.specs.Headings.{kindOf, headed}
 use Rattle.headings.specs.declared.Heading.{Heading}
 use Rattle.reading.specs.Refusals.{refusalNumber}
-use Rattle.read_headings.specs.Told.{headed}
 use Rattle.read_records.specs.declared.Read.{Read}
 use Rattle.read_records.specs.declared.Read.the-variants.{Record, End, Refused}
 use Rattle.moortangle.specs.Reads.{ReadsInto}

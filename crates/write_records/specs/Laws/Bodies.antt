@@ -17,18 +17,18 @@ use Rattle.format.specs.Laws.Bodies.{instants-never}
 use Rattle.headings.specs.declared.Code.{Code}
 use Rattle.headings.specs.declared.Code.the-variants.{Gamma, Delta, Rice, VariableByte, Interpolative}
 use Rattle.headings.specs.declared.Heading.{Heading}
-use Rattle.headings.specs.Headings.{codeOf, carried, kindOf}
+use Rattle.headings.specs.Headings.{codeOf, carried, kindOf, headed}
 use Rattle.headings.specs.declared.bodies.Words.{Words}
 use Rattle.headings.specs.Bodies.{imageBy, codeFor}
 use Rattle.headings.specs.Laws.Bodies.{words-body, signed-corrections}
 use Rattle.write_lists.specs.Images.{images}
 use Rattle.write_lists.specs.Laws.Images.{body-images}
-use Rattle.write_records.specs.Images.{recordOf, bodyImage}
+use Rattle.write_records.specs.Images.{bodyImage}
 use Rattle.write_records.specs.Bodies.{SignedRecord}
 
 -- ---- a record whose parameter is small enough
 
-pub small-parameter : (h : Heading) (vs : List ℤ) → Valid (recordOf h vs) → carried (h .code) ≤ largestParameter
+pub small-parameter : (h : Heading) (vs : List ℤ) → Valid (headed h vs) → carried (h .code) ≤ largestParameter
 small-parameter h vs v = go (h .code) (v .parameter .0) (v .parameter .1)
   where
     go : (c : Code) → (codeOf c ≡ Records.Rice → carried c ≤ largestParameter) → ((codeOf c ≡ Records.Rice → ⊥) → carried c ≡ 0) → carried c ≤ largestParameter
@@ -47,7 +47,7 @@ words-image h vs w t a e =
     ∙ body-images (imageBy w) (kindOf (h .kind)) vs
     ∙ ap (λ (k : Kinds.Kind). images (imageBy w) k vs) e
 
-pub words-list : (h : Heading) (vs : List ℤ) (t : Kinds.Kind) → Valid (recordOf h vs) → kindOf (h .kind) ≡ t → ListOf t (pos 0) vs
+pub words-list : (h : Heading) (vs : List ℤ) (t : Kinds.Kind) → Valid (headed h vs) → kindOf (h .kind) ≡ t → ListOf t (pos 0) vs
 words-list h vs t v e = subst (λ (k : Kinds.Kind). ListOf k (pos 0) vs) e (v .values)
 
 -- ---- by halves
@@ -56,7 +56,7 @@ naturals : (xs : List ℕ) → map natural (map pos xs) ≡ xs
 naturals [] = refl
 naturals (x ∷ xs) = ap (λ (l : List ℕ). x ∷ l) (naturals xs)
 
-pub halves-never : (h : Heading) (xs : List ℕ) → Valid (recordOf h (map pos xs)) → h .code ≡ Interpolative → NeverFalls 0 xs
+pub halves-never : (h : Heading) (xs : List ℕ) → Valid (headed h (map pos xs)) → h .code ≡ Interpolative → NeverFalls 0 xs
 halves-never h xs v e =
     subst (NeverFalls 0) (naturals xs) (instants-never (pos 0) (map pos xs) (words-list h (map pos xs) Kinds.Instants v (v .kind (ap codeOf e))) .1)
 

@@ -1,10 +1,7 @@
 use Rattle.read_lists.specs.Laws.Through.{corrections-through}
-use native.Mathlib.Omega.{arith}
 use borrow.Author.Needs.{needs}
 use Rattle.read_lists.proofs.signed.judge.Statement.{statement}
 use Rattle.read_lists.proofs.signed.judge.Tie as tie
-use Rattle.read_lists.proofs.signed.judge.Reads as reads
-use Rattle.read_lists.proofs.signed.judge.Lts as lts
 use Rattle.read_lists.proofs.signed.go_through.Reads as go-through-reads
 
 slice-aggregate-go-through : tie.Need-slice-aggregate-go-through

@@ -1,10 +1,7 @@
 use Rattle.read_lists.specs.Laws.Through.{corrections-kept, corrections-not-kept}
-use native.Mathlib.Omega.{arith}
 use borrow.Author.Needs.{needs}
 use Rattle.read_lists.proofs.signed.keep.Statement.{statement}
 use Rattle.read_lists.proofs.signed.keep.Tie as tie
-use Rattle.read_lists.proofs.signed.keep.Reads as reads
-use Rattle.read_lists.proofs.signed.keep.Lts as lts
 use Rattle.read_lists.proofs.signed.go_through.Reads as go-through-reads
 
 go-through-requires : tie.Need-go-through-requires

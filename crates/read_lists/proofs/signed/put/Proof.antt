@@ -5,8 +5,6 @@ use native.Mathlib.Omega.{arith}
 use borrow.Author.Needs.{needs}
 use Rattle.read_lists.proofs.signed.put.Statement.{statement}
 use Rattle.read_lists.proofs.signed.put.Tie as tie
-use Rattle.read_lists.proofs.signed.put.Reads as reads
-use Rattle.read_lists.proofs.signed.put.Lts as lts
 
 mul-x : tie.Need-mul-x
 mul-x c = search needs

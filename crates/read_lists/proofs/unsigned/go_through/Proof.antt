@@ -15,8 +15,6 @@ use borrow.Author.Needs.{needs}
 use native.Mathlib.Omega.{arith}
 use Rattle.read_lists.proofs.unsigned.go_through.Statement.{statement}
 use Rattle.read_lists.proofs.unsigned.go_through.Tie as tie
-use Rattle.read_lists.proofs.unsigned.go_through.Reads as reads
-use Rattle.read_lists.proofs.unsigned.go_through.Lts as lts
 use Rattle.read_lists.proofs.unsigned.counted.Reads as counted-reads
 use Rattle.read_lists.proofs.unsigned.kept.Reads as kept-reads
 use Rattle.read_lists.proofs.unsigned.next.Reads as next-reads

@@ -1,10 +1,7 @@
 use Rattle.read_lists.specs.Laws.Through.{judged-through}
-use native.Mathlib.Omega.{arith}
 use borrow.Author.Needs.{needs}
 use Rattle.read_lists.proofs.unsigned.judge.Statement.{statement}
 use Rattle.read_lists.proofs.unsigned.judge.Tie as tie
-use Rattle.read_lists.proofs.unsigned.judge.Reads as reads
-use Rattle.read_lists.proofs.unsigned.judge.Lts as lts
 use Rattle.read_lists.proofs.unsigned.go_through.Reads as go-through-reads
 
 slice-aggregate-go-through : tie.Need-slice-aggregate-go-through

@@ -1,10 +1,7 @@
 use Rattle.read_lists.specs.Laws.Through.{kept-through, not-kept-through}
-use native.Mathlib.Omega.{arith}
 use borrow.Author.Needs.{needs}
 use Rattle.read_lists.proofs.unsigned.keep.Statement.{statement}
 use Rattle.read_lists.proofs.unsigned.keep.Tie as tie
-use Rattle.read_lists.proofs.unsigned.keep.Reads as reads
-use Rattle.read_lists.proofs.unsigned.keep.Lts as lts
 use Rattle.read_lists.proofs.unsigned.go_through.Reads as go-through-reads
 
 go-through-requires : tie.Need-go-through-requires

@@ -4,8 +4,6 @@ use native.Mathlib.Omega.{arith}
 use borrow.Author.Needs.{needs}
 use Rattle.read_lists.proofs.unsigned.put.Statement.{statement}
 use Rattle.read_lists.proofs.unsigned.put.Tie as tie
-use Rattle.read_lists.proofs.unsigned.put.Reads as reads
-use Rattle.read_lists.proofs.unsigned.put.Lts as lts
 
 mul-list : tie.Need-mul-list
 mul-list c = search needs

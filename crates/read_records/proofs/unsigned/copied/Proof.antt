@@ -2,7 +2,6 @@ use mathlib.Core.Path.{refl}
 use Rattle.read_records.specs.Told.{no}
 use Rattle.reading.specs.Laws.Judging.{kept-no}
 use Rattle.read_records.specs.Laws.Copied.{copied-naturals, listed-kept}
-use native.Mathlib.Omega.{arith}
 use borrow.Author.Needs.{needs}
 use Rattle.read_records.proofs.unsigned.copied.Statement.{statement}
 use Rattle.read_records.proofs.unsigned.copied.Tie as tie

@@ -4,7 +4,6 @@ use Rattle.read_words.specs.Laws.Glimpsed.{gamma-seen}
 use Rattle.read_words.specs.Glimpsed.{unsettled, seen}
 use mathlib.Core.Path.{refl}
 use native.Mathlib.Omega.{arith}
-use borrow.Author.Needs.{needs}
 use Rattle.read_words.proofs.glimpse.gamma.Statement.{statement}
 use Rattle.read_words.proofs.glimpse.gamma.Tie as tie
 
