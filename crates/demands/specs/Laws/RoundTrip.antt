@@ -24,15 +24,10 @@ use Rattle.headings.specs.declared.Heading.{Heading}
 use Rattle.read_records.specs.Told.{itemOf}
 use Rattle.read_records.specs.declared.Read.{Read}
 use Rattle.read_records.specs.declared.Read.the-variants as OfRead
 use Rattle.moortangle.specs.Reads.{ReadsInto}
+use Rattle.demands.specs.Calls.{Back}
 
 -- ---- read after write: the list comes back, equal instants as two, with code, kind and parameter, 0 where the code has none
-
-pub record Back (code parameter kind : ℕ) (values old : List ℤ) (p : ℕ) (r : Read) (new : List ℤ) : Type 0 where
-  pub entry : Record
-  pub holds : Holds entry code parameter kind values
-  pub answer : itemOf r new ≡ gives (listed entry p)
-  pub list : new ≡ values ++ drop (length values) old
 
 pub read-back : (bytes : List ℕ) (start : ℕ) (f : Family) (code parameter kind : ℕ) (values : List ℤ) (p : ℕ) (after : List ℕ) → Writes bytes start f code parameter kind values (gives p) after
     → (old new : List ℤ) (r : Read) → length values ≤ length old → ReadsInto after start p f kind old r new → Back code parameter kind values old p r new

@@ -28,12 +28,12 @@ use Rattle.read_records.specs.declared.LookedUpCorrection.{LookedUpCorrection}
 use Rattle.read_records.specs.declared.LookedUpCorrection.the-variants as OfCorrection
 use Rattle.read_records.specs.declared.Searched.{Searched}
 use Rattle.read_records.specs.declared.Searched.the-variants as OfSearched
 use Rattle.moortangle.specs.declared.Wrote.the-variants.{Done}
-use Rattle.moortangle.specs.Calls.{Call}
+use Rattle.demands.specs.Calls.{Call}
 use Rattle.moortangle.specs.Reads.{ReadsInto}
 use Rattle.moortangle.specs.Wrote.{outcomeOf}
-use Rattle.moortangle.specs.Laws.RoundTrip.{stands}
-use Rattle.moortangle.specs.Laws.InTurn.{Leaves, leaves}
+use Rattle.demands.specs.Laws.RoundTrip.{stands}
+use Rattle.demands.specs.Laws.InTurn.{Leaves, leaves}
 
 -- ---- "a record that is stopped at any bit before its end, in a buffer and between positions that the limits allow": what stands there is a
 -- proper beginning of the bits that a call has written

@@ -18,7 +18,7 @@ use Rattle.format.specs.Laws.Records.{code-one}
 use Rattle.format.specs.Laws.Outcomes.{reads-accepted}
 use Rattle.format.specs.Laws.Round.{Holds, WrittenBits, written-bits, reads-back}
 use Rattle.format.specs.Laws.Demand3.{first-records}
-use Rattle.moortangle.specs.Calls.{Call, WrittenInTurn, none, then, SameRecord, FirstOf}
+use Rattle.demands.specs.Calls.{Call, WrittenInTurn, none, then, SameRecord, FirstOf}
 
 -- ---- the records that calls ask for, and the bits that they leave
 

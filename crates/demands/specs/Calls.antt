@@ -1,20 +1,22 @@
 -- Calls of the entries, one after the other, as a caller makes them.
 use mathlib.Core.Path.{_≡_}
-use mathlib.Core.List.{List, [], _∷_}
+use mathlib.Core.List.{List, [], _∷_, _++_}
 use Prim.Native.Nat.{ℕ, _+_, _≤_}
 use lib.IntN.{ℤ}
-use lib.ListN.{length}
+use lib.ListN.{length, drop}
 use Rattle.format.specs.Kinds.{Kind, Family}
-use Rattle.format.specs.Records.{Rice, codeNumber}
-use Rattle.format.specs.Answers.{Told}
+use Rattle.format.specs.Records.{Rice, codeNumber, Record}
+use Rattle.format.specs.Answers.{gives, Told}
+use Rattle.format.specs.Reading.{listed}
 use Rattle.format.specs.Writing.{Writes}
+use Rattle.format.specs.Laws.Round.{Holds}
 use Rattle.bits.specs.declared.BitPos.{BitPos}
+use Rattle.read_records.specs.Told.{itemOf}
 use Rattle.read_records.specs.declared.Read.{Read}
 use Rattle.read_records.specs.declared.Read.the-variants.{End}
 use Rattle.moortangle.specs.declared.Wrote.the-variants.{Done}
 use Rattle.moortangle.specs.Reads.{ReadsInto}
 use Rattle.moortangle.specs.Wrote.{outcomeOf}
-use Rattle.moortangle.specs.Laws.RoundTrip.{Back}
 
 -- what `write`, or for corrections `write_corrections`, is given beside the buffer and the start
 pub record Call : Type 0 where
@@ -48,6 +50,13 @@ FirstOf (q ∷ qs) (r ∷ rs) = SameRecord q r × FirstOf qs rs
 abbrev pub valuesOf : List Call → ℕ
 valuesOf [] = 0
 valuesOf (q ∷ qs) = length (q .values) + valuesOf qs
+
+-- a list that was written comes back with its code, kind and parameter, in front of a lent list, and p is the bit after it
+pub record Back (code parameter kind : ℕ) (values old : List ℤ) (p : ℕ) (r : Read) (new : List ℤ) : Type 0 where
+  pub entry : Record
+  pub holds : Holds entry code parameter kind values
+  pub answer : itemOf r new ≡ gives (listed entry p)
+  pub list : new ≡ values ++ drop (length values) old
 
 -- reading from bit `at` on, each time from the bit that was told: what was written comes back call by call, into any list that has
 -- room, and then whoever asks for a kind of his entry is told the end

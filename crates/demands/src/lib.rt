@@ -1,0 +1,1 @@
+// What the customer demands of the entries, as theorems that follow from their contracts alone. No code.
