@@ -1,3 +1,4 @@
 pub mod Cursor
+pub mod Look
 pub mod Pen
 pub mod Laws

@@ -1,11 +1,9 @@
 // The body of a record that is read word by word: judged without a list, and kept in an own one.
-ghost use Prim.Native.Nat.{_+_, _*_, _≤_};
-ghost use lib.ListN.{length, take, drop};
-ghost use Rattle.layout.specs.Bits.{bitsOf};
-ghost use Rattle.layout.specs.Laws.Bits.{val};
+ghost use Prim.Native.Nat.{_*_, _≤_, _<_};
+ghost use lib.ListN.{length};
 ghost use Rattle.format.specs.Codes.{Word};
 ghost use Rattle.bits.specs.Cursor.{Within};
-ghost use Rattle.read_words.specs.Glimpsed.{Glimpsed};
+ghost use Rattle.read_words.specs.Glimpsed.{GlimpsedAt, Settled};
 ghost use Rattle.read_words.specs.Told.{ToldWord};
 ghost use Rattle.headings.specs.Bodies.{imageBy, Known};
 use bits::Cursor;
@@ -32,16 +30,34 @@ pub(crate) fn word(c: Cursor, s: &[u8], code: Words) -> Read
     }
 }
 
-// The same by one look at the 32 bits from `at` on, which settles most words, and with no cursor to hand back.
-pub(crate) fn glimpse(s: &[u8], at: usize, code: Words) -> u64
-    requires { ⌜ (at + 32 ≤ 8 * length (now s)) × (length (now s) ≤ 65536) × Known code ⌝ }
-    ensures { λ r. ⌜ Glimpsed (imageBy code) (val (take 32 (drop at (bitsOf (now (s .entry)))))) r ⌝ }
+// The same by one look at the bits from `at` on, which settles most words, and with no cursor to hand back.
+fn look(s: &[u8], at: usize, code: Words) -> u64
+    requires { ⌜ (8 ≤ length (now s)) × (at < 8 * length (now s)) × (length (now s) ≤ 65536) × Known code ⌝ }
+    ensures { λ r. ⌜ GlimpsedAt (imageBy code) (now (s .entry)) at r ⌝ }
 {
-    let n = bits::number::number(s, at, 32);
+    let n = bits::number::look(s, at);
     match code {
         Words::Gamma => read_words::glimpse::gamma(n),
         Words::Delta => read_words::glimpse::delta(n),
         Words::Rice(k) => read_words::glimpse::rice(n, k),
         Words::VariableByte => read_words::glimpse::variable_byte(n),
     }
+}
+
+// What a look tells of the word at the cursor, if that ends before the stop; else 0.
+pub(crate) fn glimpse(c: Cursor, s: &[u8], code: Words) -> u64
+    requires { ⌜ Within c (length (now s)) × Known code ⌝ }
+    ensures { λ r. ⌜ Settled (imageBy code) (now (s .entry)) c r ⌝ }
+{
+    if c.left() == 0 {
+        return 0;
+    }
+    if s.len() < 8 {
+        return 0;
+    }
+    let q = look(s, c.at().bit(), code);
+    if c.left() < (q % 64) as usize {
+        return 0;
+    }
+    q
 }

@@ -64,10 +64,7 @@ fn next(c: Cursor, s: &[u8], code: Words) -> Correction
     requires { ⌜ Within c (length (now s)) × Known code ⌝ }
     ensures { λ r. ⌜ ToldCorrection (imageBy code) (now (s .entry)) c r ⌝ }
 {
-    if c.left() < 32 {
-        return careful(c, s, code);
-    }
-    let q = crate::glimpse(s, c.at().bit(), code);
+    let q = crate::glimpse(c, s, code);
     if q == 0 {
         return careful(c, s, code);
     }

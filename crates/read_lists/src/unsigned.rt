@@ -61,10 +61,7 @@ fn next(c: Cursor, s: &[u8], code: Words, instants: bool, before: u32) -> Value
     requires { ⌜ Within c (length (now s)) × Known code ⌝ }
     ensures { λ r. ⌜ ToldValue (imageBy code) (unsignedKind instants) (pos before) (now (s .entry)) c r ⌝ }
 {
-    if c.left() < 32 {
-        return careful(c, s, code, instants, before);
-    }
-    let q = crate::glimpse(s, c.at().bit(), code);
+    let q = crate::glimpse(c, s, code);
     if q == 0 {
         return careful(c, s, code, instants, before);
     }

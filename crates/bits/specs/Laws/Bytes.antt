@@ -2,17 +2,18 @@
 use mathlib.Core.Path.{_≡_, refl, sym, ap, ap₂, _∙_, subst}
 use mathlib.Core.Bool.{Bool}
 use mathlib.Core.List.{List, [], _∷_, _++_, append-assoc}
-use Prim.Native.Nat.{ℕ, suc, _+_, _-_, _*_, _/_, _%_, _^_, _≤_, _<_}
+use Prim.Native.Nat.{ℕ, suc, _+_, _-_, _*_, _/_, _%_, _^_, _≤_, _<_, min}
 use native.Mathlib.Nat.{mod-lt, mod-eq-of-lt, add-assoc, mul-div-mul-right, mul-assoc, div-one, add-mul, mul-add-mod-self-right, mul-lt-mul-of-pos-right}
 use native.Mathlib.Omega.{arith}
 use lib.Arith.{digits-lt}
 use lib.Pow.{pow-pos, pow-add, shr-lt, high, split}
 use lib.ListN.{length, take, drop, getD, set, length-append, length-drop, take-append-drop}
-use lib.Seq.{split-at, set-split, take-at, drop-at, drop-drop, length-take-le}
+use lib.Seq.{split-at, set-split, take-all, take-at, drop-at, drop-drop, length-take-le}
 use mir.Syntax.{w8}
 use mir.Val.{Fits}
 use Rattle.layout.specs.Bits.{Bytes, inBits, bitsOf, put}
 use Rattle.layout.specs.Laws.Bits.{val, length-inBits, inBits-split, inBits-low, inBits-cat, val-append, val-inBits, val-lt, length-bitsOf, bitsOf-append}
+use Rattle.bits.specs.Look.{skipped, Looked}
 use Rattle.layout.specs.Laws.Windows.{put-step, val-step, window-front}
 
 -- b, with the w bits above the lowest k replaced by those of v
@@ -188,6 +189,37 @@ from-window s q r n h k =
     let l : 64 ≤ length y = rw length-drop (rw length-bitsOf (omega arith)) in
     window-val (take 64 y) n r (length-take-le 64 y l) k
     ∙ ap val (window-front y r n 64 k ∙ ap (take n) (drop-drop r (8 * q) (bitsOf s)))
+
+-- all that is left of it from bit r on
+pub rest-of-window : (s : List ℕ) (q r : ℕ) → q + 8 ≤ length s → r ≤ 64
+    → val (take 64 (drop (8 * q) (bitsOf s))) * 2 ^ r % 2 ^ 64 ≡ val (take (64 - r) (drop (8 * q + r) (bitsOf s))) * 2 ^ r
+rest-of-window s q r h k =
+    let y = drop (8 * q) (bitsOf s) in
+    let l : 64 ≤ length y = rw length-drop (rw length-bitsOf (omega arith)) in
+    let x = take 64 y in
+    let e : length x ≡ 64 = length-take-le 64 y l in
+    let f : length (drop r x) ≡ 64 - r = length-drop r x ∙ ap (λ (m : ℕ). m - r) e in
+    moved x r e k
+    ∙ ap (λ (b : List Bool). val b * 2 ^ r)
+    (sym (take-all (64 - r) (drop r x) (omega arith))
+    ∙ window-front y r (64 - r) 64 (omega arith)
+    ∙ ap (take (64 - r)) (drop-drop r (8 * q) (bitsOf s)))
+
+-- a look at the eight bytes from byte q on
+pub looked : (s : List ℕ) (at q x : ℕ) → q ≡ min (at / 8) (length s - 8) → 8 ≤ length s → at < 8 * length s → x ≡ val (take 64 (drop (8 * q) (bitsOf s)))
+    → Looked s at (x * 2 ^ (at - 8 * q) % 2 ^ 64)
+looked s at q x e h l f =
+    let r = at - 8 * q in
+    let inside : q + 8 ≤ length s = omega arith in
+    let p : 8 * q + (at - 8 * q) ≡ at = omega arith in
+    let g : at - 8 * q ≡ skipped s at = ap (λ (y : ℕ). at - 8 * y) e in
+    record {
+      rest = ap (λ (y : ℕ). y * 2 ^ r % 2 ^ 64) f
+          ∙ rest-of-window s q r inside (omega arith)
+          ∙ ap (λ (y : ℕ). val (take (64 - r) (drop y (bitsOf s))) * 2 ^ r) p
+          ∙ ap (λ (y : ℕ). val (take (64 - y) (drop at (bitsOf s))) * 2 ^ y) g;
+      front = λ k a b. ap (λ (y : ℕ). y * 2 ^ r % 2 ^ 64 / 2 ^ (64 - k)) f ∙ from-window s q r k inside (omega arith) ∙ ap (λ (y : ℕ). val (take k (drop y (bitsOf s)))) p;
+    }
 
 -- the list of a lent `&mut [u8]`, of which each element fits, is one of bytes
 pub all-bytes : (s : List ℕ) → ((i : ℕ) → Fits w8 (getD s i 0)) → Bytes s

@@ -10,6 +10,7 @@ use Rattle.layout.specs.Bits.{zeros}
 use Rattle.layout.specs.Layout.{Takes, fixed}
 use Rattle.layout.specs.Laws.Sound.{takes-one, fixed-sound}
 use Rattle.bits.specs.Cursor.{Within, left, ToldField, took, cut, ZeroRun}
+use Rattle.bits.specs.Look.{Looked}
 use Rattle.bits.specs.Laws.Cursor.{length-left}
 use Rattle.bits.specs.declared.BitPos.{BitPos}
 use Rattle.bits.specs.declared.Cursor.{Cursor}
@@ -51,3 +52,7 @@ run-same l a b x y = go a b (x .rest) (y .rest) (sym (x .is) ∙ y .is) (x .ends
     go zero (suc b) p q e f g = absurd (no-zero p (zeros b ++ q) f e)
     go (suc a) zero p q e f g = absurd (no-zero q (zeros a ++ p) g (sym e))
     go (suc a) (suc b) p q e f g = ap suc (go a b p q (cc) f g)
+
+-- a look has one answer
+pub looked-one : (s : List ℕ) (at m n : ℕ) → Looked s at m → Looked s at n → m ≡ n
+looked-one s at m n x y = x .rest ∙ sym (y .rest)

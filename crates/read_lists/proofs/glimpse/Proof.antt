@@ -1,69 +1,57 @@
-use Rattle.headings.specs.declared.bodies.Words.the-variants.{Gamma, Delta, Rice, VariableByte}
-use Rattle.headings.specs.Laws.Bodies.{rice-known}
-use Rattle.read_lists.specs.Laws.Words.{glimpsed-by}
+use Rattle.bits.specs.declared.BitPos.{BitPos}
+use Rattle.read_words.specs.Laws.Glimpsed.{glimpsed-taken}
+use mathlib.Core.Path.{_≡_, refl, ap, _∙_}
+use native.Mathlib.Omega.{arith}
 use borrow.Author.Needs.{needs}
 use Rattle.read_lists.proofs.glimpse.Statement.{statement}
 use Rattle.read_lists.proofs.glimpse.Tie as tie
 
-number-requires : tie.Need-number-requires
-number-requires c κs = search needs
-
-enum-told : tie.Need-enum-told
-enum-told c = search needs
-
-gamma-requires : tie.Need-gamma-requires
-gamma-requires c κs = search needs
-
-enum-told-2 : tie.Need-enum-told-2
-enum-told-2 c = search needs
-
-delta-requires : tie.Need-delta-requires
-delta-requires c κs = search needs
-
-enum-known-code : tie.Need-enum-known-code
-enum-known-code c = search needs
-
-rice-requires : tie.Need-rice-requires
-rice-requires c κs =
-    let u = c .before .before .before .before .before in
-    rice-known (u .args .code) (c .before .code .given .0 .0) (c .before .code .given .1) (u .pre .2)
-
-enum-told-3 : tie.Need-enum-told-3
-enum-told-3 c = search needs
-
-variable-byte-requires : tie.Need-variable-byte-requires
-variable-byte-requires c κs = search needs
+left-requires : tie.Need-left-requires
+left-requires c κs = search needs
 
 returns : tie.Need-returns
-returns c =
-    glimpsed-by (c .before .before .before .before .before .args .code) Gamma (c .before .enum-told .given .1) (c .before .before .before .number .ensures) (c .gamma .ensures)
+returns c = λ k. absurd (k refl)
 
 returns-2 : tie.Need-returns-2
-returns-2 c =
-    glimpsed-by (c .before .before .before .before .before .args .code) Delta (c .before .enum-told2 .given .1) (c .before .before .before .number .ensures) (c .delta .ensures)
+returns-2 c = λ k. absurd (k refl)
+
+at-requires : tie.Need-at-requires
+at-requires c κs = search needs
+
+bit-requires : tie.Need-bit-requires
+bit-requires c κs = search needs
+
+look-requires : tie.Need-look-requires
+look-requires c κs =
+    let u = c .before .before .before .before .before .before in
+    let w = u .pre .0 in
+    let at : c .bit .result ≡ c .before .before .before .before .before .before .args .c .at .0 = c .bit .ensures ∙ ap (λ (p : BitPos). p .0) (c .before .at .ensures) in
+    (omega (arith, c .before .before .if2 .left), omega (arith, at, w .order, w .inside, c .before .before .before .if1 .left, c .before .before .before .before .left .ensures), w .small, u .pre .1)
+
+left-requires-2 : tie.Need-left-requires-2
+left-requires-2 c κs = search needs
 
 returns-3 : tie.Need-returns-3
-returns-3 c =
-    glimpsed-by (c .before .before .before .before .before .before .args .code) (Rice (c .before .before .code .given .0 .0)) (c .before .before .code .given .1) (c .before .before .before .before .number .ensures) (c .rice .ensures)
+returns-3 c = λ k. absurd (k refl)
 
 returns-4 : tie.Need-returns-4
 returns-4 c =
-    glimpsed-by (c .before .before .before .before .before .args .code) VariableByte (c .before .enum-told3 .given .1) (c .before .before .before .number .ensures) (c .variable-byte .ensures)
+    let u = c .before .before .before .before .before .before .before .before .before in
+    let bit = c .before .before .before .bit in
+    let at : c .before .before .before .bit .result ≡ c .before .before .before .before .before .before .before .before .before .args .c .at .0 = bit .ensures ∙ ap (λ (p : BitPos). p .0) (c .before .before .before .before .at .ensures) in
+    let q = c .before .before .look in
+    glimpsed-taken (u .args .s .now) (u .args .c) (u .pre .0) (q .result) (omega (arith, c .if3 .left, c .before .left2 .ensures)) (bit .result) at (q .ensures)
 
 pub glimpse-spec : {M : Type 1} → statement M
 glimpse-spec =
     tie.close
     (tie.spec
-    number-requires
-    enum-told
-    gamma-requires
-    enum-told-2
-    delta-requires
-    enum-known-code
-    rice-requires
-    enum-told-3
-    variable-byte-requires
+    left-requires
     returns
     returns-2
+    at-requires
+    bit-requires
+    look-requires
+    left-requires-2
     returns-3
     returns-4)

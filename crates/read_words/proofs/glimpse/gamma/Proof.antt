@@ -4,6 +4,7 @@ use Rattle.read_words.specs.Laws.Glimpsed.{gamma-seen}
 use Rattle.read_words.specs.Glimpsed.{unsettled, seen}
 use mathlib.Core.Path.{refl}
 use native.Mathlib.Omega.{arith}
+use borrow.Author.Needs.{needs}
 use Rattle.read_words.proofs.glimpse.gamma.Statement.{statement}
 use Rattle.read_words.proofs.glimpse.gamma.Tie as tie
 
@@ -25,13 +26,11 @@ sub-pack c =
     let (z, w, e) = gamma-seen (c .before .args .n) _ (omega (arith, c .if1 .left)) (c .before .fits .n .fits) refl in
     omega arith
 
+cast-pack : tie.Need-cast-pack
+cast-pack c = search needs
+
 shr-pack : tie.Need-shr-pack
 shr-pack c =
-    let (z, w, e) = gamma-seen (c .before .args .n) _ (omega (arith, c .if1 .left)) (c .before .fits .n .fits) refl in
-    omega arith
-
-cast-pack : tie.Need-cast-pack
-cast-pack c =
     let (z, w, e) = gamma-seen (c .before .args .n) _ (omega (arith, c .if1 .left)) (c .before .fits .n .fits) refl in
     omega arith
 
@@ -43,10 +42,10 @@ pack-requires c κs =
 returns-2 : tie.Need-returns-2
 returns-2 c =
     let (z, w, e) = gamma-seen (c .before .before .args .n) _ (omega (arith, c .before .if1 .left)) (c .before .before .fits .n .fits) refl in
-    let z₀ : ℕ = leadingZeros 32 (c .before .before .args .n) in
-    seen (c .before .before .args .n / 2 ^ (32 - (2 * z₀ + 1))) (2 * z₀ + 1) w (omega arith) e (c .pack .ensures)
+    let z₀ : ℕ = leadingZeros 64 (c .before .before .args .n) in
+    seen (c .before .before .args .n / 2 ^ (64 - (2 * z₀ + 1))) (2 * z₀ + 1) w (omega arith) e (c .pack .ensures)
 
 pub gamma-spec : {M : Type 1} → statement M
 gamma-spec =
     tie.close
-    (tie.spec returns mul-bits add-bits sub-pack shr-pack cast-pack pack-requires returns-2)
+    (tie.spec returns mul-bits add-bits sub-pack cast-pack shr-pack pack-requires returns-2)

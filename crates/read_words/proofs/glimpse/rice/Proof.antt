@@ -39,54 +39,53 @@ cast-pack c = search needs
 mul-pack : tie.Need-mul-pack
 mul-pack c =
     let n : ℕ = c .before .before .before .args .n in
-    let z : ℕ = leadingZeros 32 n in
-    let (a, w, e) = rice-seen n z (c .before .before .before .args .k) (c .power .result) (c .power .ensures .0) (omega (arith, c .before .before .if1 .left)) (c .before .before .before .fits .n .fits) refl (omega (arith, c .before .if2 .left)) in
-    omega (arith, w .1)
-
-shr-pack : tie.Need-shr-pack
-shr-pack c = search needs
-
-cast-pack-2 : tie.Need-cast-pack-2
-cast-pack-2 c =
-    let n : ℕ = c .before .before .before .args .n in
-    let z : ℕ = leadingZeros 32 n in
+    let z : ℕ = leadingZeros 64 n in
     let (a, w, e) = rice-seen n z (c .before .before .before .args .k) (c .power .result) (c .power .ensures .0) (omega (arith, c .before .before .if1 .left)) (c .before .before .before .fits .n .fits) refl (omega (arith, c .before .if2 .left)) in
     omega (arith, w .1)
 
 sub-pack : tie.Need-sub-pack
-sub-pack c =
+sub-pack c = search needs
+
+cast-pack-2 : tie.Need-cast-pack-2
+cast-pack-2 c = search needs
+
+shr-pack : tie.Need-shr-pack
+shr-pack c = search needs
+
+sub-pack-2 : tie.Need-sub-pack-2
+sub-pack-2 c =
     let n : ℕ = c .before .before .before .args .n in
-    let z : ℕ = leadingZeros 32 n in
+    let z : ℕ = leadingZeros 64 n in
     let (a, w, e) = rice-seen n z (c .before .before .before .args .k) (c .power .result) (c .power .ensures .0) (omega (arith, c .before .before .if1 .left)) (c .before .before .before .fits .n .fits) refl (omega (arith, c .before .if2 .left)) in
     omega (arith, w .1)
 
 add-pack : tie.Need-add-pack
 add-pack c =
     let n : ℕ = c .before .before .before .args .n in
-    let z : ℕ = leadingZeros 32 n in
+    let z : ℕ = leadingZeros 64 n in
     let (a, w, e) = rice-seen n z (c .before .before .before .args .k) (c .power .result) (c .power .ensures .0) (omega (arith, c .before .before .if1 .left)) (c .before .before .before .fits .n .fits) refl (omega (arith, c .before .if2 .left)) in
     omega (arith, w .1)
 
 add-pack-2 : tie.Need-add-pack-2
 add-pack-2 c =
     let n : ℕ = c .before .before .before .args .n in
-    let z : ℕ = leadingZeros 32 n in
+    let z : ℕ = leadingZeros 64 n in
     let (a, w, e) = rice-seen n z (c .before .before .before .args .k) (c .power .result) (c .power .ensures .0) (omega (arith, c .before .before .if1 .left)) (c .before .before .before .fits .n .fits) refl (omega (arith, c .before .if2 .left)) in
     omega (arith, w .1)
 
 pack-requires : tie.Need-pack-requires
 pack-requires c κs =
     let n : ℕ = c .before .before .before .args .n in
-    let z : ℕ = leadingZeros 32 n in
+    let z : ℕ = leadingZeros 64 n in
     let (a, w, e) = rice-seen n z (c .before .before .before .args .k) (c .power .result) (c .power .ensures .0) (omega (arith, c .before .before .if1 .left)) (c .before .before .before .fits .n .fits) refl (omega (arith, c .before .if2 .left)) in
     (omega (arith, w .1), omega arith)
 
 returns-3 : tie.Need-returns-3
 returns-3 c =
     let n : ℕ = c .before .before .before .before .args .n in
-    let z : ℕ = leadingZeros 32 n in
+    let z : ℕ = leadingZeros 64 n in
     let (a, w, e) = rice-seen n z (c .before .before .before .before .args .k) (c .before .power .result) (c .before .power .ensures .0) (omega (arith, c .before .before .before .if1 .left)) (c .before .before .before .before .fits .n .fits) refl (omega (arith, c .before .before .if2 .left)) in
-    seen (z * c .before .power .result + (n / 2 ^ (32 - (z + 1 + c .before .before .before .before .args .k)) - c .before .power .result) + 1) (z + 1 + c .before .before .before .before .args .k) w (omega arith) e (c .pack .ensures)
+    seen (z * c .before .power .result + (n / 2 ^ (64 - (z + 1 + c .before .before .before .before .args .k)) - c .before .power .result) + 1) (z + 1 + c .before .before .before .before .args .k) w (omega arith) e (c .pack .ensures)
 
 pub rice-spec : {M : Type 1} → statement M
 rice-spec =
@@ -101,9 +100,10 @@ rice-spec =
     cast-one
     cast-pack
     mul-pack
-    shr-pack
-    cast-pack-2
     sub-pack
+    cast-pack-2
+    shr-pack
+    sub-pack-2
     add-pack
     add-pack-2
     pack-requires

@@ -1,4 +1,4 @@
-use Rattle.read_words.specs.Laws.Glimpsed.{group-seen, two-seen, three-seen}
+use Rattle.read_words.specs.Laws.Glimpsed.{group-seen, two-seen, three-seen, four-seen}
 use Rattle.read_words.specs.Glimpsed.{unsettled, seen}
 use mathlib.Core.Path.{refl}
 use native.Mathlib.Omega.{arith}
@@ -8,9 +8,6 @@ use Rattle.read_words.proofs.glimpse.variable_byte.Tie as tie
 
 returns : tie.Need-returns
 returns c = unsettled refl
-
-cast-pack : tie.Need-cast-pack
-cast-pack c = search needs
 
 pack-requires : tie.Need-pack-requires
 pack-requires c κs = search needs
@@ -28,9 +25,6 @@ mul-pack c = search needs
 
 add-pack : tie.Need-add-pack
 add-pack c = search needs
-
-cast-pack-2 : tie.Need-cast-pack-2
-cast-pack-2 c = search needs
 
 pack-requires-2 : tie.Need-pack-requires-2
 pack-requires-2 c κs = search needs
@@ -53,9 +47,6 @@ mul-pack-2 c = search needs
 add-pack-2 : tie.Need-add-pack-2
 add-pack-2 c = search needs
 
-cast-pack-3 : tie.Need-cast-pack-3
-cast-pack-3 c = search needs
-
 pack-requires-3 : tie.Need-pack-requires-3
 pack-requires-3 c κs = search needs
 
@@ -65,28 +56,52 @@ returns-5 c =
     let (w, e) = three-seen (u .args .n) _ (omega (arith, c .before .before .before .before .if2 .left, c .before .before .before .if3 .left)) (omega (arith, u .fits .n)) (omega (arith, c .before .before .if4 .left)) (c .before .if5 .taken) refl in
     seen _ 24 w (omega arith) e (c .pack3 .ensures)
 
+mul-pack-3 : tie.Need-mul-pack-3
+mul-pack-3 c = search needs
+
+add-pack-3 : tie.Need-add-pack-3
+add-pack-3 c = search needs
+
+mul-pack-4 : tie.Need-mul-pack-4
+mul-pack-4 c = search needs
+
+add-pack-4 : tie.Need-add-pack-4
+add-pack-4 c = search needs
+
+pack-requires-4 : tie.Need-pack-requires-4
+pack-requires-4 c κs = search needs
+
 returns-6 : tie.Need-returns-6
-returns-6 c = unsettled refl
+returns-6 c =
+    let u = c .before .before .before .before .before .before .before in
+    let (w, e) = four-seen (u .args .n) _ (omega (arith, c .before .before .before .before .before .if2 .left, c .before .before .before .before .if3 .left)) (omega (arith, u .fits .n)) (omega (arith, c .before .before .before .if4 .left)) (omega (arith, c .before .before .if5 .left)) (c .before .if6 .taken) refl in
+    seen _ 32 w (omega arith) e (c .pack4 .ensures)
+
+returns-7 : tie.Need-returns-7
+returns-7 c = unsettled refl
 
 pub variable-byte-spec : {M : Type 1} → statement M
 variable-byte-spec =
     tie.close
     (tie.spec
     returns
-    cast-pack
     pack-requires
     returns-2
     returns-3
     mul-pack
     add-pack
-    cast-pack-2
     pack-requires-2
     returns-4
     mul-high
     add-high
     mul-pack-2
     add-pack-2
-    cast-pack-3
     pack-requires-3
     returns-5
-    returns-6)
+    mul-pack-3
+    add-pack-3
+    mul-pack-4
+    add-pack-4
+    pack-requires-4
+    returns-6
+    returns-7)
