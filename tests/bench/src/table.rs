@@ -8,10 +8,12 @@ use bench::plain::{self, MOST_BYTES};
 /// Several samples, so that nothing is timed on branches that the processor has learnt by heart.
 const SAMPLES: usize = 16;
 const RICE: u32 = 3;
-const COLUMNS: [&str; 6] = ["bits per value", "written", "read", "checked", "looked up", "searched"];
+const COLUMNS: [&str; 8] =
+    ["bits per value", "written", "read", "checked", "looked up", "searched", "look-up / check", "search / check"];
 
-/// Library / plain for writing, reading, checking, looking up and searching.
-type Ratios = [f64; 5];
+/// Library / plain for writing, reading, checking, looking up and searching; then the library's look-up and search
+/// beside its own check of the same record.
+type Ratios = [f64; 7];
 
 pub struct Table {
     shape: Shape,
@@ -43,12 +45,11 @@ impl Table {
 
     /// Prints each line as soon as it is measured, and hands its ratios on.
     pub fn print(&self) -> [Ratios; 5] {
-        print_row(self.name(), COLUMNS.map(str::to_owned));
+        print_row(self.name(), COLUMNS.into_iter().map(str::to_owned));
         println!("|---|{}", "---|".repeat(COLUMNS.len()));
         let ratios = self.codes.each_ref().map(|(name, heading)| {
             let ratios = self.ratios(*heading);
-            let [write, read, check, look_up, search] = ratios;
-            let cells = [bits_per_value(*heading, &self.lists), write, read, check, look_up, search];
+            let cells = [bits_per_value(*heading, &self.lists)].into_iter().chain(ratios);
             print_row(name, cells.map(|number| format!("{number:.2}")));
             ratios
         });
@@ -73,14 +74,23 @@ impl Table {
             &subjects(heading, &self.lists),
             self.shape.lists_in_sample,
         );
-        std::array::from_fn(|call| times[2 * call] / times[2 * call + 1])
+        let [write, plain_write, read, plain_read, check, plain_check, look_up, plain_look_up, search, plain_search] =
+            times;
+        [
+            write / plain_write,
+            read / plain_read,
+            check / plain_check,
+            look_up / plain_look_up,
+            search / plain_search,
+            look_up / check,
+            search / check,
+        ]
     }
 }
 
 /// As a line of a Markdown table, for docs/BENCHMARKS.md.
-fn print_row(name: &str, cells: [String; COLUMNS.len()]) {
-    let cells: Vec<String> =
-        cells.iter().zip(COLUMNS).map(|(cell, column)| format!("{cell:>0$}", column.len())).collect();
+fn print_row(name: &str, cells: impl Iterator<Item = String>) {
+    let cells: Vec<String> = cells.zip(COLUMNS).map(|(cell, column)| format!("{cell:>0$}", column.len())).collect();
     println!("| {name:<13} | {} |", cells.join(" | "));
 }
 
