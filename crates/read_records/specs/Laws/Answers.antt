@@ -7,9 +7,10 @@ use lib.IntN.{ℤ}
 use lib.ListN.{length, take}
 use lib.Seq.{length-take-le}
 use Rattle.format.specs.Records.{Record}
+use Rattle.bits.specs.Laws.Same.{bit-same}
 use Rattle.headings.specs.Headings.{headed}
 use Rattle.headings.specs.Laws.Same.{heading-one}
-use Rattle.reading.specs.Laws.Refusals.{bit-same, refused-same}
+use Rattle.reading.specs.Laws.Refusals.{refused-same}
 use Rattle.read_records.specs.Told.{itemOf, Counted, lookedUp, lookedUpCorrection, searched}
 use Rattle.read_records.specs.declared.Read.{Read}
 use Rattle.read_records.specs.declared.Read.the-variants as OfRead

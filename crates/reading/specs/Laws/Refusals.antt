@@ -4,6 +4,7 @@ use mathlib.Core.List.{[], _∷_}
 use Prim.Native.Nat.{ℕ, _-_}
 use lib.ListN.{getD}
 use Rattle.format.specs.Answers.{Outcome, refuses}
+use Rattle.bits.specs.Laws.Same.{bit-same}
 use Rattle.bits.specs.declared.BitPos.{BitPos}
 use Rattle.reading.specs.Refusals.{refusalNumber}
 use Rattle.reading.specs.declared.Refusal.{Refusal}
@@ -26,9 +27,6 @@ back-is Beyond = refl
 
 pub refusal-same : (a b : Refusal) → refusalNumber a ≡ refusalNumber b → a ≡ b
 refusal-same a b e = sym (back-is a) ∙ ap back e ∙ back-is b
-
-pub bit-same : (p q : BitPos) → p .0 ≡ q .0 → p ≡ q
-bit-same p q e = ap (λ (n : ℕ). record { 0 = n }) e
 
 -- a refusal and the bit told with it
 pub refused-same : {A B : Type 0} (make : Refusal → BitPos → B) (m n : Refusal) (p q : BitPos) → _≡_ {A = Outcome A} (refuses (refusalNumber m) (p .0)) (refuses (refusalNumber n) (q .0)) → make m p ≡ make n q

@@ -9,6 +9,7 @@ use Rattle.layout.specs.Layout.{Layout}
 use Rattle.layout.specs.Laws.Sound.{Sound}
 use Rattle.format.specs.Reading.{below}
 use Rattle.bits.specs.Cursor.{Within, left, to, Refuses}
+use Rattle.bits.specs.Laws.Same.{bit-same}
 use Rattle.bits.specs.declared.BitPos.{BitPos}
 use Rattle.bits.specs.declared.Cursor.{Cursor}
 use Rattle.reading.specs.Refusals.{refusalNumber}
@@ -34,7 +35,7 @@ refused-one l {s} {c} w {m} {n} {p} {q} x y =
     let b = told-at s c q w (y .upto) in
     let k : length (left (to c p) s) ≡ length (left (to c q) s) = ap length f in
     let j : p .0 ≡ q .0 = omega arith in
-    (refusal-same m n e, ap (λ (i : ℕ). record { 0 = i }) j)
+    (refusal-same m n e, bit-same p q j)
 
 module _ {L : Layout (List ℤ)} (l : Sound L) {s : List ℕ} {c : Cursor} (w : Within c (length s)) where
   pub judged-one : {place sought : ℕ} {r q : Judged} → ToldJudged L place sought s c r → ToldJudged L place sought s c q → r ≡ q

@@ -8,14 +8,12 @@ use Rattle.layout.specs.Bits.{Bytes}
 use Rattle.format.specs.Writing.{Puts}
 use Rattle.format.specs.Laws.Writing.{puts-one}
 use Rattle.bits.specs.Laws.Pen.{bits-one}
+use Rattle.bits.specs.Laws.Same.{bit-same}
 use Rattle.bits.specs.declared.BitPos.{BitPos}
 use Rattle.write_records.specs.Put.{putOutcome}
 use Rattle.write_records.specs.Written.{Written}
 use Rattle.write_records.specs.declared.Put.{Put}
 use Rattle.write_records.specs.declared.Put.the-variants.{Done, Full}
-
-bit-same : (p q : BitPos) → p .0 ≡ q .0 → p ≡ q
-bit-same p q e = ap (λ (n : ℕ). record { 0 = n }) e
 
 pub written-one : {new : List Bool} {before after after′ : List ℕ} {at next next′ : BitPos} → Bytes after → Bytes after′
     → Written new before at after next → Written new before at after′ next′ → (after ≡ after′) × (next ≡ next′)
