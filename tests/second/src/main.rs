@@ -22,6 +22,7 @@ use guarded::Lending;
 use reading::Comparison;
 use second::random::Random;
 use std::process::exit;
+use std::thread::{self, JoinHandle};
 use tally::Tally;
 
 const SEED: u64 = 1;
@@ -30,9 +31,10 @@ const RANDOM_READINGS: u64 = 1_500_000;
 
 fn main() {
     let (seed, random_cases) = arguments();
+    let small_world = thread::spawn(move || reading::small_world(seed));
     let mut random = Random::seeded(seed);
     let written = writers(&mut random, seed, random_cases.unwrap_or(RANDOM_WRITINGS));
-    let read = readers(&mut random, seed, random_cases.unwrap_or(RANDOM_READINGS));
+    let read = readers(&mut random, seed, random_cases.unwrap_or(RANDOM_READINGS), small_world);
     println!("{written} cases of writing and {read} of reading compared, seed {seed}");
 }
 
@@ -48,10 +50,11 @@ fn writers(random: &mut Random, seed: u64, random_cases: u64) -> u64 {
     tally.cases
 }
 
-fn readers(random: &mut Random, seed: u64, random_cases: u64) -> u64 {
+fn readers(random: &mut Random, seed: u64, random_cases: u64, small_world: JoinHandle<reading::Tally>) -> u64 {
     let mut comparison = Comparison { seed, tally: reading::Tally::default() };
     reading::systematic(random, &mut comparison);
     reading::chance(random, &mut comparison, random_cases);
+    comparison.tally.add(&small_world.join().expect("the small world ends, or the run does"));
     println!("{}", comparison.tally.summary());
     nothing_left_out(&comparison.tally.missing());
     comparison.tally.cases

@@ -24,7 +24,7 @@ pub use comparison::Comparison;
 use second::random::Random;
 pub use tally::Tally;
 
-/// Cases chosen by rule, so that no edge depends on luck.
+/// Cases chosen by rule, so that no edge depends on luck; beside them is the small world.
 pub fn systematic(random: &mut Random, comparison: &mut Comparison) {
     let mut cases = Cases { random, comparison };
     records::run(&mut cases);
@@ -34,7 +34,14 @@ pub fn systematic(random: &mut Random, comparison: &mut Comparison) {
     offsets::run(&mut cases);
     streams::run(&mut cases);
     limits::run(&mut cases);
-    small_world::run(&mut cases);
+}
+
+/// All small buffers. No other part takes so long, so that this one has a thread of its own.
+pub fn small_world(seed: u64) -> Tally {
+    let mut random = Random::seeded(seed);
+    let mut comparison = Comparison { seed, tally: Tally::default() };
+    small_world::run(&mut Cases { random: &mut random, comparison: &mut comparison });
+    comparison.tally
 }
 
 /// How often a record is damaged and a stream is made for each that is stopped at every bit.

@@ -36,6 +36,17 @@ impl Tally {
         }
     }
 
+    pub fn add(&mut self, other: &Tally) {
+        self.cases += other.cases;
+        for (mine, others) in self.answers.iter_mut().zip(&other.answers) {
+            add(mine, others);
+        }
+        add(&mut self.ends, &other.ends);
+        for (&heading, times) in &other.records {
+            *self.records.entry(heading).or_default() += times;
+        }
+    }
+
     pub fn summary(&self) -> String {
         let mut lines = Vec::new();
         for (name, answers) in NAMES.iter().zip(self.answers) {
@@ -61,6 +72,12 @@ impl Tally {
             unread.map(|[code, kind, k]| format!("no list of code {code}, kind {kind}, parameter {k} was read")),
         );
         missing
+    }
+}
+
+fn add(sums: &mut [u64], numbers: &[u64]) {
+    for (sum, number) in sums.iter_mut().zip(numbers) {
+        *sum += number;
     }
 }
 
