@@ -1,5 +1,4 @@
-// The entries: their names, and what each takes.
-use crate::scan::Form;
+// The entries: their names, and how many numbers each takes.
 
 // How many letters of a line are met when one more comes, and more than it has if that is another letter.
 fn met(line: &[u8], so_far: usize, letter: u8) -> usize {
@@ -40,17 +39,6 @@ pub(crate) fn numbered(line: &[u8], end: usize) -> usize {
     )
 }
 
-// How many of an entry's numbers are positions, which come first.
-pub(crate) fn positions(entry: usize) -> usize {
-    match entry {
-        0..=3 => 1,
-        4..=6 => 2,
-        7..=8 => 3,
-        9 => 2,
-        _ => 0,
-    }
-}
-
 // How many numbers an entry takes.
 fn numbers(entry: usize) -> usize {
     match entry {
@@ -63,34 +51,16 @@ fn numbers(entry: usize) -> usize {
     }
 }
 
-// How many parts follow them: bytes, or bytes and a list.
-fn parts(entry: usize) -> usize {
-    match entry {
-        0..=1 => 2,
-        4..=5 => 2,
-        11 => 0,
-        _ => 1,
-    }
-}
-
-// How its list is written.
-pub(crate) fn form(entry: usize) -> Form {
-    match entry {
-        1 => Form::Corrections,
-        5 => Form::Corrections,
-        _ => Form::Values,
-    }
-}
-
-// The entry, if a line gives what it takes, and otherwise one that there is not.
-pub(crate) fn fitting(entry: usize, given: usize, bars: usize, whole: bool) -> usize {
-    if !whole {
-        return 12;
-    }
+// The entry, if a line gives as many numbers as it takes and no more bytes and values than there is room for, and otherwise one that
+// there is not.
+pub(crate) fn fitting(entry: usize, given: usize, bytes: usize, values: usize) -> usize {
     if given != numbers(entry) {
         return 12;
     }
-    if bars != parts(entry) {
+    if 65537 < bytes {
+        return 12;
+    }
+    if 65537 < values {
         return 12;
     }
     entry

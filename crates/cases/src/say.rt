@@ -1,48 +1,36 @@
-// What is printed of an answer.
+// What is printed of an answer, after a space each.
 ghost use Prim.Native.Nat.{_≤_, _<_};
 ghost use lib.ListN.{length};
-use crate::corrections;
-use crate::scan::Form;
+use crate::memory;
 use bits::BitPos;
+use find_in_records::LookedUp;
+use find_in_records::LookedUpCorrection;
+use find_in_records::Searched;
 use headings::Heading;
 use moortangle::Wrote;
-use read_records::LookedUp;
-use read_records::LookedUpCorrection;
 use read_records::Read;
-use read_records::Searched;
 use read_streams::Checked;
 use reading::Refusal;
-
-// An answer of document 01, and the bit or the place that it tells.
-struct Answer {
-    answer: u32,
-    at: usize,
-}
 
 pub(crate) fn text(t: &[u8]) {
     io::write_all(1, t);
 }
 
-pub(crate) fn byte(b: u8) {
-    text(&[b]);
-}
-
-fn number(n: u32) {
+fn number(n: usize) {
     io::print_decimal(1, n as u64);
 }
 
-// A number after a space.
 pub(crate) fn spaced(n: usize) {
-    byte(b' ');
-    io::print_decimal(1, n as u64);
+    text(b" ");
+    number(n);
 }
 
 pub(crate) fn not_a_case() {
-    text(b"not a case");
+    text(b" not a case");
 }
 
 pub(crate) fn told(answer: u32, at: usize) {
-    number(answer);
+    spaced(answer as usize);
     text(b" at");
     spaced(at);
 }
@@ -51,24 +39,16 @@ fn refused(why: Refusal, at: BitPos) {
     told(reading::number(why), at.bit());
 }
 
-fn of_writer(r: Wrote) -> Answer {
-    match r {
-        Wrote::Done(next) => Answer {
-            answer: 0,
-            at: next.bit(),
-        },
-        Wrote::TooMany => Answer { answer: 1, at: 0 },
-        Wrote::OutOfRange(i) => Answer { answer: 2, at: i },
-        Wrote::Falls(i) => Answer { answer: 3, at: i },
-        Wrote::Unknown => Answer { answer: 4, at: 0 },
-        Wrote::Full => Answer { answer: 5, at: 0 },
-        Wrote::Outside => Answer { answer: 12, at: 0 },
-    }
-}
-
 pub(crate) fn wrote(r: Wrote) {
-    let t = of_writer(r);
-    told(t.answer, t.at);
+    match r {
+        Wrote::Done(next) => told(0, next.bit()),
+        Wrote::TooMany => told(1, 0),
+        Wrote::OutOfRange(i) => told(2, i),
+        Wrote::Falls(i) => told(3, i),
+        Wrote::Unknown => told(4, 0),
+        Wrote::Full => told(5, 0),
+        Wrote::Outside => told(12, 0),
+    }
 }
 
 // A record's code, kind, parameter and count.
@@ -97,30 +77,31 @@ pub(crate) fn read(r: Read) {
 
 pub(crate) fn looked_up(r: LookedUp) {
     match r {
-        LookedUp::Value(v) => {
-            text(b"value");
-            spaced(v as usize);
-        }
+        LookedUp::Value(v) => spaced(v as usize),
         LookedUp::Refused(why, at) => refused(why, at),
     }
 }
 
+// A correction with its sign.
+fn correction(v: i32) {
+    let c = memory::complement(v);
+    if c < 2147483648 {
+        return spaced(c as usize);
+    }
+    text(b" -");
+    number(4294967296 - c as usize);
+}
+
 pub(crate) fn looked_up_correction(r: LookedUpCorrection) {
     match r {
-        LookedUpCorrection::Value(v) => {
-            text(b"value ");
-            correction(corrections::complement(v));
-        }
+        LookedUpCorrection::Value(v) => correction(v),
         LookedUpCorrection::Refused(why, at) => refused(why, at),
     }
 }
 
 pub(crate) fn searched(r: Searched) {
     match r {
-        Searched::Below(n) => {
-            text(b"below it");
-            spaced(n);
-        }
+        Searched::Below(n) => spaced(n),
         Searched::Refused(why, at) => refused(why, at),
     }
 }
@@ -128,33 +109,20 @@ pub(crate) fn searched(r: Searched) {
 pub(crate) fn checked(r: Checked) {
     match r {
         Checked::Stream(records, values) => {
-            text(b"records");
             spaced(records);
-            text(b" values");
             spaced(values);
         }
         Checked::Refused(why, at) => refused(why, at),
     }
 }
 
-// A number in two's complement, with its sign.
-fn correction(v: u32) {
-    if v < 2147483648 {
-        return number(v);
+// An item of base 16 or else 10.
+fn item(v: u32, base: u64) {
+    if base == 16 {
+        io::print_hex(1, v as u64, 2);
+        return;
     }
-    byte(b'-');
-    number(4294967295 - v + 1);
-}
-
-fn item(v: u32, form: Form) {
-    match form {
-        Form::Positions => number(v),
-        Form::Bytes => {
-            io::print_hex(1, v as u64, 2);
-        }
-        Form::Values => number(v),
-        Form::Corrections => correction(v),
-    }
+    number(v as usize);
 }
 
 // The end of the items from a place on that are alike.
@@ -172,14 +140,14 @@ fn run(list: &[u32], at: usize) -> usize
     end
 }
 
-// One item, or a long run as a case may give it: `N*` and the item.
-fn some(count: usize, v: u32, form: Form) {
-    byte(b' ');
+// One item, or a long run as a case may give it: the item, a star, and how many.
+fn some(count: usize, v: u32, base: u64) {
+    text(b" ");
+    item(v, base);
     if 1 < count {
-        io::print_decimal(1, count as u64);
-        byte(b'*');
+        text(b"*");
+        number(count);
     }
-    item(v, form);
 }
 
 // How many of the items that are alike are printed together.
@@ -194,13 +162,30 @@ fn together(alike: usize) -> usize
 }
 
 // The items of lent memory after the call.
-pub(crate) fn items(list: &[u32], form: Form) {
-    byte(b' ');
-    byte(b'|');
+pub(crate) fn items(list: &[u32], base: u64) {
+    text(b" |");
     let mut at = 0;
     while at < list.len() {
         let count = together(run(list, at) - at);
-        some(count, list[at], form);
+        some(count, list[at], base);
         at += count;
     }
+}
+
+pub(crate) fn corrections(list: &[i32]) {
+    text(b" |");
+    let mut i = 0;
+    while i < list.len() {
+        correction(list[i]);
+        i += 1;
+    }
+}
+
+pub(crate) fn bytes(buf: &[u8])
+    requires { ⌜ length (now buf) ≤ 65538 ⌝ }
+{
+    let mut list = memory::list();
+    let count = buf.len();
+    memory::widen(buf, &mut list);
+    items(&list[..count], 16);
 }

@@ -14,9 +14,9 @@ use Rattle.bits.specs.declared.BitPos.{BitPos}
 use Rattle.read_records.specs.Told.{itemOf}
 use Rattle.read_records.specs.declared.Read.{Read}
 use Rattle.read_records.specs.declared.Read.the-variants.{End}
-use Rattle.moortangle.specs.declared.Wrote.the-variants.{Done}
-use Rattle.moortangle.specs.Reads.{ReadsInto}
-use Rattle.moortangle.specs.Wrote.{outcomeOf}
+use Rattle.writing.specs.declared.Wrote.the-variants.{Done}
+use Rattle.read_entries.specs.Reads.{ReadsInto}
+use Rattle.writing.specs.Wrote.{outcomeOf}
 
 -- what `write`, or for corrections `write_corrections`, is given beside the buffer and the start
 pub record Call : Type 0 where

@@ -5,7 +5,7 @@ use Prim.Native.Nat.{ℕ, _+_}
 use lib.Seq.{sets}
 use Rattle.format.specs.Interpolative.{part}
 use Rattle.format.specs.Laws.Interpolative.{sinking}
-use Rattle.read_interpolative.specs.Parts.{ToldNext}
+use Rattle.read_middles.specs.Parts.{ToldNext}
 
 -- a part is read, and the instants of its elements have been put into a list, from `start` on
 abbrev pub KeptPart : (start n low hi : ℕ) (old new s : List ℕ) (at stop next : ℕ) → Type 0

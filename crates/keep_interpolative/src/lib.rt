@@ -1,17 +1,21 @@
 // The body of code 5, judged and kept in an own list.
 ghost use mathlib.Core.Path.{_≡_};
 ghost use mathlib.Core.List.{map};
-ghost use Prim.Native.Nat.{_+_, _*_, _≤_, _<_};
+ghost use Prim.Native.Nat.{_+_, _-_, _*_, _≤_, _<_};
 ghost use lib.IntN.{pos};
 ghost use lib.ListN.{length, set};
 ghost use Rattle.format.specs.Limits.{longestBuffer, longestList, largestInstant};
+ghost use Rattle.format.specs.Codes.{Word};
 ghost use Rattle.bits.specs.Cursor.{Within};
+ghost use Rattle.bits.specs.declared.Cursor.{Cursor};
 ghost use Rattle.reading.specs.Judging.{ToldKept};
-ghost use Rattle.read_interpolative.specs.Parts.{instantsOf};
+ghost use Rattle.read_middles.specs.Parts.{instantsOf, LastRead};
 ghost use Rattle.keep_interpolative.specs.Parts.{KeptPart};
 use bits::BitPos;
 use bits::Cursor;
-use read_interpolative::read_middle;
+use read_middles::read_middle;
+use read_middles::refusal;
+use read_middles::refusal_bit;
 use read_words::Read;
 use read_words::delta;
 use reading::Kept;
@@ -67,6 +71,21 @@ fn keep_part(
     keep_part(s, next, stop, list, right_start, j, right_low, hi)
 }
 
+// Keeps the n instants of which the last, wherever it has been read, has the word w: the others are left to be read.
+fn keep_others(s: &[u8], at: usize, stop: usize, own: &mut [u32], n: usize, w: u32) -> Kept
+    requires place { ⌜ (at ≤ stop) × (stop ≤ 8 * length (now s)) × (length (now s) ≤ longestBuffer) ⌝ }
+    requires room { ⌜ (1 ≤ n) × (n ≤ longestList) × (n ≤ length (now own)) × Word w ⌝ }
+    ensures { λ r. ⌜ ((c : Cursor) → LastRead n (n - 1) (w - 1) (w - 1 + (n - 1)) (now (s .entry)) c at stop → ToldKept (instantsOf n) n (now (s .entry)) c (map pos (now (own .entry))) (map pos (now (own .exit))) r) ⌝ }
+{
+    let others = n - 1;
+    let next = keep_part(s, at, stop, own, 0, others, 1, (w - 1) as usize + others);
+    if stop < next {
+        return Kept::No(refusal(next), refusal_bit(next));
+    }
+    store(own, others, w - 1);
+    Kept::Whole(Cursor::new(BitPos::new(next), BitPos::new(stop)))
+}
+
 pub fn keep(c: Cursor, s: &[u8], n: usize, own: &mut [u32]) -> Kept
     requires { ⌜ Within c (length (now s)) × (n ≤ longestList) × (n ≤ length (now own)) ⌝ }
     ensures { λ r. ⌜ ToldKept (instantsOf n) n (now (s .entry)) c (map pos (now (own .entry))) (map pos (now (own .exit))) r ⌝ }
@@ -74,23 +93,8 @@ pub fn keep(c: Cursor, s: &[u8], n: usize, own: &mut [u32]) -> Kept
     if n == 0 {
         return Kept::Whole(c);
     }
-    let others = n - 1;
     match delta::read(c, s) {
-        Read::Took(w, d) => {
-            let last = (w - 1) as usize;
-            let end = d.stop();
-            let stop = end.bit();
-            let next = keep_part(s, d.at().bit(), stop, own, 0, others, 1, last + others);
-            if stop < next {
-                let at = BitPos::new(next % 4294967296);
-                if next / 4294967296 == 6 {
-                    return Kept::No(Refusal::CutShort, at);
-                }
-                return Kept::No(Refusal::BadWord, at);
-            }
-            store(own, others, w - 1);
-            Kept::Whole(Cursor::new(BitPos::new(next), end))
-        }
+        Read::Took(w, d) => keep_others(s, d.at().bit(), d.stop().bit(), own, n, w),
         Read::Cut => Kept::No(Refusal::CutShort, c.at()),
         Read::Bad(_) => Kept::No(Refusal::BadWord, c.at()),
     }

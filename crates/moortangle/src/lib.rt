@@ -1,19 +1,13 @@
-// The public entries. None asks anything of its caller: whatever is given, the answer and all lent memory are what document 01 says.
-use bits::BitPos;
-
+// The public entries, under one roof. None asks anything of its caller: whatever is given, the answer and all lent memory are what
+// document 01 says.
 pub mod end;
 pub mod find;
-mod place;
 pub mod record;
 pub mod stream;
 
-// What a writer answers, with what it tells: document 01's 0, 1, 2, 3, 4, 5 and 12.
-pub enum Wrote {
-    Done(BitPos),
-    TooMany,
-    OutOfRange(usize),
-    Falls(usize),
-    Unknown,
-    Full,
-    Outside,
-}
+pub use find_in_records::LookedUp;
+pub use find_in_records::LookedUpCorrection;
+pub use find_in_records::Searched;
+pub use read_records::Read;
+pub use read_streams::Checked;
+pub use writing::Wrote;

@@ -1,3 +1,2 @@
-pub mod Flat
-pub mod Reads
+pub mod Tells
 pub mod Laws

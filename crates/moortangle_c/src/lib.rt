@@ -1,3 +1,3 @@
-// The C boundary: each entry under its C name, its answer flattened into a struct, because C has no enum that carries numbers.
+// The C boundary: each entry under its C name, its answer as a struct.
 pub mod readers;
 pub mod writers;

@@ -19,7 +19,7 @@ pub fn judge(c: Cursor, s: &[u8], h: Heading, n: usize, place: usize) -> JudgedC
 {
     let code = h.code;
     match headings::bodies::body_of(code) {
-        Body::ByWords(words) => read_lists::signed::judge(c, s, words, n, place),
+        Body::ByWords(words) => read_signed_lists::judge(c, s, words, n, place),
         Body::ByHalves => JudgedCorrections::Whole(0, c),
     }
 }
@@ -30,7 +30,7 @@ pub fn keep(c: Cursor, s: &[u8], h: Heading, n: usize, own: &mut [i32]) -> Kept
 {
     let code = h.code;
     match headings::bodies::body_of(code) {
-        Body::ByWords(words) => read_lists::signed::keep(c, s, words, n, own),
+        Body::ByWords(words) => read_signed_lists::keep(c, s, words, n, own),
         Body::ByHalves => Kept::Whole(c),
     }
 }

@@ -23,16 +23,8 @@ pub fn judge(c: Cursor, s: &[u8], h: Heading, n: usize, place: usize, sought: u3
     let kind = h.kind;
     let instants = headings::bodies::is_instants(kind);
     match headings::bodies::body_of(code) {
-        Body::ByWords(words) => read_lists::unsigned::judge(
-            c,
-            s,
-            words,
-            instants,
-            n,
-            place,
-            sought,
-        ),
-        Body::ByHalves => read_interpolative::judge(c, s, n, place, sought),
+        Body::ByWords(words) => read_unsigned_lists::judge(c, s, words, instants, n, place, sought),
+        Body::ByHalves => judge_interpolative::judge(c, s, n, place, sought),
     }
 }
 
@@ -44,7 +36,7 @@ pub fn keep(c: Cursor, s: &[u8], h: Heading, n: usize, own: &mut [u32]) -> Kept
     let kind = h.kind;
     let instants = headings::bodies::is_instants(kind);
     match headings::bodies::body_of(code) {
-        Body::ByWords(words) => read_lists::unsigned::keep(c, s, words, instants, n, own),
+        Body::ByWords(words) => read_unsigned_lists::keep(c, s, words, instants, n, own),
         Body::ByHalves => keep_interpolative::keep(c, s, n, own),
     }
 }

@@ -1,11 +1,9 @@
--- What the readers of a heading's fields tell; every refusal at the field's first bit.
+-- What the readers of a heading's fields before the count tell; every refusal at the field's first bit.
 use mathlib.Core.Path.{_≡_}
-use mathlib.Core.Bool.{Bool, true, false}
 use mathlib.Core.List.{List}
 use Prim.Native.Nat.{ℕ}
-use Rattle.format.specs.Kinds as Kinds
 use Rattle.format.specs.Records as Records
-use Rattle.format.specs.Records.{codeField, kindField, parameterField, countField}
+use Rattle.format.specs.Records.{codeField, kindField, parameterField}
 use Rattle.format.specs.Reading.{NoEnd}
 use Rattle.bits.specs.Cursor.{left, Taken, Refuses}
 use Rattle.bits.specs.declared.Cursor.{Cursor}
@@ -21,23 +19,12 @@ use Rattle.read_headings.specs.declared.KindField.{KindField}
 use Rattle.read_headings.specs.declared.KindField.the-variants as OfKind
 use Rattle.read_headings.specs.declared.ParameterField.{ParameterField}
 use Rattle.read_headings.specs.declared.ParameterField.the-variants as OfParameter
-use Rattle.read_headings.specs.declared.CountField.{CountField}
-use Rattle.read_headings.specs.declared.CountField.the-variants as OfCount
 
 -- a code, which for Rice has no k yet; an end mark in its place; or neither
 pub data ToldCodeField (s : List ℕ) (c : Cursor) : CodeField → Type 0 where
   is : {x : Code} {d : Cursor} → Taken codeField s c (codeOf x) d → ToldCodeField s c (OfCode.Is x d)
   ends : {d : Cursor} → Ended s c d → ToldCodeField s c (OfCode.End d)
   no : {m : Refusal} → NoEnd (left c s) → Refuses codeField s c (refusalNumber m) (c .at) → ToldCodeField s c (OfCode.No m)
-
--- a code and a kind that go together: not "code 5 without kind 1"
-abbrev pub Goes : Records.Code → Kinds.Kind → Type 0
-Goes x t = x ≡ Records.Interpolative → t ≡ Kinds.Instants
-
--- a test that says true unless P holds
-pub data Unless (P : Type 0) : Bool → Type 0 where
-  holds : P → Unless P false
-  fails : (P → ⊥) → Unless P true
 
 -- a kind that is wanted and goes with the code, or why not
 pub data ToldKindField (w : Records.Wanted) (x : Records.Code) (s : List ℕ) (c : Cursor) : KindField → Type 0 where
@@ -53,8 +40,3 @@ pub record CodeWith (x : Code) (s : List ℕ) (c : Cursor) (y : Code) (d : Curso
 pub data ToldParameterField (x : Code) (s : List ℕ) (c : Cursor) : ParameterField → Type 0 where
   is : {y : Code} {d : Cursor} → CodeWith x s c y d → ToldParameterField x s c (OfParameter.Is y d)
   cut : Refuses (parameterField (codeOf x)) s c 6 (c .at) → ToldParameterField x s c OfParameter.Cut
-
--- a count for which there is room, or why not
-pub data ToldCountField (room : ℕ) (s : List ℕ) (c : Cursor) : CountField → Type 0 where
-  is : {n : ℕ} {d : Cursor} → Taken (countField room) s c n d → ToldCountField room s c (OfCount.Is n d)
-  no : {m : Refusal} → Refuses (countField room) s c (refusalNumber m) (c .at) → ToldCountField room s c (OfCount.No m)

@@ -16,19 +16,15 @@ use Rattle.bits.specs.declared.BitPos.{BitPos}
 use Rattle.bits.specs.declared.Cursor.{Cursor}
 use Rattle.headings.specs.Headings.{codeOf, carried, kindOf, headed}
 use Rattle.headings.specs.declared.Heading.{Heading}
+use Rattle.wanted.specs.Wanted.{wantedOf}
+use Rattle.wanted.specs.declared.Wanted.{Wanted}
 use Rattle.reading.specs.Refusals.{refusalNumber}
 use Rattle.reading.specs.Reached.{Reached}
 use Rattle.reading.specs.declared.Refusal.{Refusal}
-use Rattle.read_headings.specs.declared.Wanted.{Wanted}
-use Rattle.read_headings.specs.declared.Wanted.the-variants.{Any, This}
 use Rattle.read_headings.specs.declared.Begun.{Begun}
 use Rattle.read_headings.specs.declared.Begun.the-variants as OfBegun
 
 -- what is asked for, as document 01's definitions say it
-abbrev pub wantedOf : Wanted → Records.Wanted
-wantedOf Any = Records.Any
-wantedOf (This t) = Records.This (kindOf t)
-
 abbrev pub asked : Wanted → ℕ → Asked
 asked w room = record { wanted = wantedOf w; room = room }
 

@@ -1,10 +1,10 @@
 // A record's heading, read at a cursor: code, kind, Rice's k and the count, each judged as it comes; or an end mark.
 ghost use lib.ListN.{length};
-ghost use Rattle.format.specs.Records.{Wants};
-ghost use Rattle.headings.specs.Headings.{codeOf, kindOf};
+ghost use Rattle.headings.specs.Headings.{codeOf};
 ghost use Rattle.bits.specs.Cursor.{Within};
-ghost use Rattle.read_headings.specs.Fields.{Goes, Unless, ToldCodeField, ToldKindField, ToldParameterField, ToldCountField};
-ghost use Rattle.read_headings.specs.Told.{wantedOf, asked, ToldHeading};
+ghost use Rattle.wanted.specs.Wanted.{wantedOf};
+ghost use Rattle.read_headings.specs.Fields.{ToldCodeField, ToldKindField, ToldParameterField};
+ghost use Rattle.read_headings.specs.Told.{asked, ToldHeading};
 use bits::BitPos;
 use bits::Cursor;
 use bits::Field;
@@ -13,15 +13,9 @@ use headings::CodeChoice;
 use headings::Heading;
 use headings::Kind;
 use headings::KindChoice;
-use read_words::Read;
-use read_words::gamma;
+use read_counts::CountField;
 use reading::Refusal;
-
-// The kind that a reader asks for, or that it takes any.
-pub enum Wanted {
-    Any,
-    This(Kind),
-}
+use wanted::Wanted;
 
 // What stands at a cursor: a heading with its count, before the body; an end mark; or neither.
 pub enum Begun {
@@ -47,11 +41,6 @@ enum ParameterField {
     Cut,
 }
 
-enum CountField {
-    Is(usize, Cursor),
-    No(Refusal),
-}
-
 // The code; Rice's k is still 0.
 fn code_field(c: Cursor, s: &[u8]) -> CodeField
     requires { ⌜ Within c (length (now s)) ⌝ }
@@ -71,25 +60,6 @@ fn code_field(c: Cursor, s: &[u8]) -> CodeField
     }
 }
 
-fn unwanted(wanted: Wanted, kind: Kind) -> bool
-    ensures { λ r. ⌜ Unless (Wants (wantedOf wanted) (kindOf kind)) r ⌝ }
-{
-    match wanted {
-        Wanted::Any => false,
-        Wanted::This(asked) => headings::kind_number(kind) != headings::kind_number(asked),
-    }
-}
-
-// Whether the code is the interpolative one and the kind is not instants.
-fn amiss(code: Code, kind: Kind) -> bool
-    ensures { λ r. ⌜ Unless (Goes (codeOf code) (kindOf kind)) r ⌝ }
-{
-    if headings::code_number(code) != 5 {
-        return false;
-    }
-    headings::kind_number(kind) != 1
-}
-
 fn kind_field(c: Cursor, s: &[u8], wanted: Wanted, code: Code) -> KindField
     requires { ⌜ Within c (length (now s)) ⌝ }
     ensures { λ r. ⌜ ToldKindField (wantedOf wanted) (codeOf code) (now (s .entry)) c r ⌝ }
@@ -97,10 +67,10 @@ fn kind_field(c: Cursor, s: &[u8], wanted: Wanted, code: Code) -> KindField
     match c.field(s, 2) {
         Field::Took(v, d) => match headings::kind_numbered(v) {
             KindChoice::Is(kind) => {
-                if unwanted(wanted, kind) {
+                if wanted::unwanted(wanted, kind) {
                     return KindField::No(Refusal::Unknown);
                 }
-                if amiss(code, kind) {
+                if wanted::amiss(code, kind) {
                     return KindField::No(Refusal::Unknown);
                 }
                 KindField::Is(kind, d)
@@ -125,26 +95,6 @@ fn parameter_field(c: Cursor, s: &[u8], code: Code) -> ParameterField
     }
 }
 
-fn count_field(c: Cursor, s: &[u8], room: usize) -> CountField
-    requires { ⌜ Within c (length (now s)) ⌝ }
-    ensures { λ r. ⌜ ToldCountField room (now (s .entry)) c r ⌝ }
-{
-    match gamma::read(c, s) {
-        Read::Took(w, d) => {
-            let n = (w - 1) as usize;
-            if 4096 < n {
-                return CountField::No(Refusal::TooMany);
-            }
-            if room < n {
-                return CountField::No(Refusal::NoRoom);
-            }
-            CountField::Is(n, d)
-        }
-        Read::Cut => CountField::No(Refusal::CutShort),
-        Read::Bad(_) => CountField::No(Refusal::BadWord),
-    }
-}
-
 pub fn read(c: Cursor, s: &[u8], wanted: Wanted, room: usize) -> Begun
     requires { ⌜ Within c (length (now s)) ⌝ }
     ensures { λ r. ⌜ ToldHeading (asked wanted room) (now (s .entry)) c r ⌝ }
@@ -152,7 +102,7 @@ pub fn read(c: Cursor, s: &[u8], wanted: Wanted, room: usize) -> Begun
     match code_field(c, s) {
         CodeField::Is(code, d) => match kind_field(d, s, wanted, code) {
             KindField::Is(kind, e) => match parameter_field(e, s, code) {
-                ParameterField::Is(whole, f) => match count_field(f, s, room) {
+                ParameterField::Is(whole, f) => match read_counts::read(f, s, room) {
                     CountField::Is(n, g) => Begun::Body(
                         Heading {
                             code: whole,

@@ -1,13 +1,13 @@
 -- What the readers of whole records tell, and the numbers and values of document 01 that their answers stand for.
 use mathlib.Core.Path.{_≡_}
-use mathlib.Core.List.{List, _++_, map}
+use mathlib.Core.List.{List, _++_}
 use Prim.Native.Nat.{ℕ, _≤_}
-use lib.IntN.{ℤ, pos}
-use lib.ListN.{length, getD, take, drop}
+use lib.IntN.{ℤ}
+use lib.ListN.{length, take, drop}
 use Rattle.format.specs.Kinds.{Kind}
-use Rattle.format.specs.Records.{This, Asked, recordFor}
+use Rattle.format.specs.Records.{This}
 use Rattle.format.specs.Answers.{Outcome, refuses, gives}
-use Rattle.format.specs.Reading.{Item, listed, ended, Reader, filled, below}
+use Rattle.format.specs.Reading.{Item, listed, ended, Reader, filled}
 use Rattle.bits.specs.Cursor.{left, Taken, Refuses}
 use Rattle.bits.specs.declared.BitPos.{BitPos}
 use Rattle.bits.specs.declared.Cursor.{Cursor}
@@ -18,14 +18,6 @@ use Rattle.reading.specs.declared.Refusal.{Refusal}
 use Rattle.read_headings.specs.Told.{bodyOf}
 use Rattle.read_records.specs.declared.Read.{Read}
 use Rattle.read_records.specs.declared.Read.the-variants as OfRead
-use Rattle.read_records.specs.declared.LookedUp.{LookedUp}
-use Rattle.read_records.specs.declared.LookedUp.the-variants as OfLookedUp
-use Rattle.read_records.specs.declared.LookedUpCorrection.{LookedUpCorrection}
-use Rattle.read_records.specs.declared.LookedUpCorrection.the-variants as OfCorrection
-use Rattle.read_records.specs.declared.Searched.{Searched}
-use Rattle.read_records.specs.declared.Searched.the-variants as OfSearched
-use Rattle.read_records.specs.declared.Seen.{Seen}
-use Rattle.read_records.specs.declared.Seen.the-variants as OfSeen
 
 -- ---- the public answers: the table's number and the bit told with it, or what is given
 
@@ -39,18 +31,6 @@ abbrev pub Counted : Read → List ℤ → Type 0
 Counted (OfRead.Record h n p) new = n ≤ length new
 Counted (OfRead.End p) new = Unit {0}
 Counted (OfRead.Refused m p) new = Unit {0}
-
-abbrev pub lookedUp : LookedUp → Outcome ℤ
-lookedUp (OfLookedUp.Value v) = gives (pos v)
-lookedUp (OfLookedUp.Refused m p) = refuses (refusalNumber m) (p .0)
-
-abbrev pub lookedUpCorrection : LookedUpCorrection → Outcome ℤ
-lookedUpCorrection (OfCorrection.Value v) = gives v
-lookedUpCorrection (OfCorrection.Refused m p) = refuses (refusalNumber m) (p .0)
-
-abbrev pub searched : Searched → Outcome ℕ
-searched (OfSearched.Below n) = gives n
-searched (OfSearched.Refused m p) = refuses (refusalNumber m) (p .0)
 
 -- ---- at a cursor
 
@@ -68,9 +48,3 @@ pub record Copied {A : Type 0} (n : ℕ) (own old new : List A) : Type 0 where
 pub data ToldListed (h : Heading) (n : ℕ) (s : List ℕ) (c : Cursor) (old new : List ℤ) : Read → Type 0 where
   took : (vs : List ℤ) (d : Cursor) → Taken (bodyOf h n) s c vs d → new ≡ vs ++ drop (length vs) old → ToldListed h n s c old new (OfRead.Record h n (d .at))
   no : {m : Refusal} {p : BitPos} → Refuses (bodyOf h n) s c (refusalNumber m) p → new ≡ old → ToldListed h n s c old new (OfRead.Refused m p)
-
--- a whole record without a list
-pub data ToldSeen (q : Asked) (place sought : ℕ) (s : List ℕ) (c : Cursor) : Seen → Type 0 where
-  whole : {n v less : ℕ} (h : Heading) (ns : List ℕ) (d : Cursor) → Taken (recordFor q) s c (headed h (map pos ns)) d
-      → n ≡ length ns → v ≡ getD ns place 0 → less ≡ below sought (map pos ns) → ToldSeen q place sought s c (OfSeen.Record n v less)
-  no : {m : Refusal} {p : BitPos} → Refuses (recordFor q) s c (refusalNumber m) p → ToldSeen q place sought s c (OfSeen.No m p)

@@ -3,21 +3,16 @@ ghost use Prim.Native.Nat.{_≤_};
 ghost use lib.ListN.{length};
 ghost use Rattle.format.specs.Limits.{longestList};
 ghost use Rattle.format.specs.Kinds.{Signed, Corrections};
-ghost use Rattle.format.specs.Reading.{LookUp, askedFor};
-ghost use Rattle.bits.specs.Cursor.{Within, left};
+ghost use Rattle.bits.specs.Cursor.{Within};
 ghost use Rattle.read_bodies.specs.Bodies.{HeadingFor};
-ghost use Rattle.read_records.specs.Told.{Copied, ToldListed, ToldRead, lookedUpCorrection};
-use crate::LookedUpCorrection;
+ghost use Rattle.read_records.specs.Told.{Copied, ToldListed, ToldRead};
 use crate::Read;
-use bits::BitPos;
 use bits::Cursor;
 use headings::Heading;
 use headings::Kind;
 use read_headings::Begun;
-use read_headings::Wanted;
-use reading::JudgedCorrections;
 use reading::Kept;
-use reading::Refusal;
+use wanted::Wanted;
 
 // The first n corrections of an own list, put in front of a lent one.
 fn copy(own: &[i32], n: usize, list: &mut [i32])
@@ -67,24 +62,5 @@ pub fn read(c: Cursor, s: &[u8], list: &mut [i32]) -> Read
         Begun::Body(h, n, d) => listed(d, s, h, n, list),
         Begun::End(d) => Read::End(d.at()),
         Begun::No(m, p) => Read::Refused(m, p),
-    }
-}
-
-pub fn look_up(c: Cursor, s: &[u8], place: usize) -> LookedUpCorrection
-    requires { ⌜ Within c (length (now s)) ⌝ }
-    ensures { λ r. ⌜ LookUp place (askedFor Corrections) (c .stop .0) (left c (now (s .entry))) (lookedUpCorrection r) ⌝ }
-{
-    match read_headings::read(c, s, Wanted::This(Kind::Corrections), 4096) {
-        Begun::Body(h, n, d) => match read_bodies::signed::judge(d, s, h, n, place) {
-            JudgedCorrections::Whole(v, _) => {
-                if place < n {
-                    return LookedUpCorrection::Value(v);
-                }
-                LookedUpCorrection::Refused(Refusal::Beyond, BitPos::new(0))
-            }
-            JudgedCorrections::No(m, p) => LookedUpCorrection::Refused(m, p),
-        },
-        Begun::End(_) => LookedUpCorrection::Refused(Refusal::Unknown, c.at()),
-        Begun::No(m, p) => LookedUpCorrection::Refused(m, p),
     }
 }

@@ -6,25 +6,17 @@ ghost use lib.IntN.{pos};
 ghost use lib.ListN.{length};
 ghost use Rattle.format.specs.Limits.{longestList};
 ghost use Rattle.format.specs.Kinds.{Unsigned, familyOf};
-ghost use Rattle.format.specs.Reading.{LookUp, Search, askedFor};
-ghost use Rattle.format.specs.Kinds as Kinds;
-ghost use Rattle.bits.specs.Cursor.{Within, left};
+ghost use Rattle.bits.specs.Cursor.{Within};
 ghost use Rattle.headings.specs.Headings.{kindOf};
 ghost use Rattle.read_bodies.specs.Bodies.{HeadingFor};
-ghost use Rattle.read_records.specs.Told.{Copied, ToldListed, ToldRead, ToldSeen, lookedUp, searched};
-use crate::LookedUp;
+ghost use Rattle.read_records.specs.Told.{Copied, ToldListed, ToldRead};
 use crate::Read;
-use crate::Searched;
-use crate::Seen;
-use bits::BitPos;
 use bits::Cursor;
 use headings::Heading;
 use headings::Kind;
 use read_headings::Begun;
-use read_headings::Wanted;
-use reading::Judged;
 use reading::Kept;
-use reading::Refusal;
+use wanted::Wanted;
 
 // The first n values of an own list, put in front of a lent one.
 fn copy(own: &[u32], n: usize, list: &mut [u32])
@@ -74,44 +66,5 @@ pub fn read(c: Cursor, s: &[u8], kind: Kind, list: &mut [u32]) -> Read
         Begun::Body(h, n, d) => listed(d, s, h, n, list),
         Begun::End(d) => Read::End(d.at()),
         Begun::No(m, p) => Read::Refused(m, p),
-    }
-}
-
-fn see(c: Cursor, s: &[u8], kind: Kind, place: usize, sought: u32) -> Seen
-    requires { ⌜ Within c (length (now s)) × (familyOf (kindOf kind) ≡ Unsigned) ⌝ }
-    ensures { λ r. ⌜ ToldSeen (askedFor (kindOf kind)) place sought (now (s .entry)) c r ⌝ }
-{
-    match read_headings::read(c, s, Wanted::This(kind), 4096) {
-        Begun::Body(h, n, d) => match read_bodies::unsigned::judge(d, s, h, n, place, sought) {
-            Judged::Whole(v, less, _) => Seen::Record(n, v, less),
-            Judged::No(m, p) => Seen::No(m, p),
-        },
-        Begun::End(_) => Seen::No(Refusal::Unknown, c.at()),
-        Begun::No(m, p) => Seen::No(m, p),
-    }
-}
-
-pub fn look_up(c: Cursor, s: &[u8], kind: Kind, place: usize) -> LookedUp
-    requires { ⌜ Within c (length (now s)) × (familyOf (kindOf kind) ≡ Unsigned) ⌝ }
-    ensures { λ r. ⌜ LookUp place (askedFor (kindOf kind)) (c .stop .0) (left c (now (s .entry))) (lookedUp r) ⌝ }
-{
-    match see(c, s, kind, place, 0) {
-        Seen::Record(n, v, _) => {
-            if place < n {
-                return LookedUp::Value(v);
-            }
-            LookedUp::Refused(Refusal::Beyond, BitPos::new(0))
-        }
-        Seen::No(m, p) => LookedUp::Refused(m, p),
-    }
-}
-
-pub fn search(c: Cursor, s: &[u8], sought: u32) -> Searched
-    requires { ⌜ Within c (length (now s)) ⌝ }
-    ensures { λ r. ⌜ Search sought (askedFor Kinds.Instants) (c .stop .0) (left c (now (s .entry))) (searched r) ⌝ }
-{
-    match see(c, s, Kind::Instants, 0, sought) {
-        Seen::Record(_, _, less) => Searched::Below(less),
-        Seen::No(m, p) => Searched::Refused(m, p),
     }
 }

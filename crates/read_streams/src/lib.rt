@@ -14,10 +14,10 @@ use bits::Cursor;
 use headings::Heading;
 use headings::Kind;
 use read_headings::Begun;
-use read_headings::Wanted;
 use reading::Judged;
 use reading::JudgedCorrections;
 use reading::Refusal;
+use wanted::Wanted;
 
 // What the stream check answers: the number of records and of values.
 pub enum Checked {

@@ -5,4 +5,3 @@ pub mod Ranges
 pub mod Readers
 pub mod VariableByte
 pub mod Same
-pub mod Glimpsed

@@ -41,3 +41,17 @@ pub record Live (v w n lo hi r : ℕ) : Type 0 where
   pub low : lo / 2 ^ (n - r) ≤ v / 2 ^ (w - r)
   pub high : v / 2 ^ (w - r) ≤ hi / 2 ^ (n - r)
   pub dead : r < w → (v / 2 ^ (w - r - 1) < lo / 2 ^ (n - r - 1)) ⊎ (hi / 2 ^ (n - r - 1) < v / 2 ^ (w - r - 1))
+
+-- ---- a word made of its last part
+
+-- the same told, of the word that is made of the one taken
+abbrev pub made : (ℕ → ℕ) → Read → Read
+made f (Took w d) = Took (f w) d
+made f Cut = Cut
+made f (Bad p) = Bad p
+
+-- a word taken and `by` are a word of 32 bits
+abbrev pub Fits : ℕ → Read → Type 0
+Fits by (Took w d) = by + w ≤ 4294967295
+Fits by Cut = Unit {0}
+Fits by (Bad p) = Unit {0}

@@ -7,6 +7,7 @@ ghost use Rattle.read_words.specs.Told.{ToldWord};
 use crate::Read;
 use crate::gamma;
 use crate::parts::between;
+use crate::parts::raised;
 use bits::Cursor;
 use bits::small::power;
 
@@ -18,11 +19,8 @@ pub fn read(c: Cursor, s: &[u8]) -> Read
         Read::Took(n, d) => {
             let size = n as usize;
             let first = power(size - 1) as u64;
-            match between(d, s, size, first, 2 * first - 1) {
-                Read::Took(w, e) => Read::Took(w, e),
-                Read::Cut => Read::Cut,
-                Read::Bad(q) => Read::Bad(q),
-            }
+            // its last part is the word; handed on as it is told, it would be copied a byte at a time
+            raised(between(d, s, size, first, 2 * first - 1), 0)
         }
         Read::Cut => Read::Cut,
         Read::Bad(q) => Read::Bad(q),

@@ -8,6 +8,7 @@ ghost use Rattle.bits.specs.Cursor.{Within};
 ghost use Rattle.read_words.specs.Told.{ToldWord, Upward};
 use crate::Read;
 use crate::parts::between;
+use crate::parts::raised;
 use crate::parts::zeros;
 use bits::Cursor;
 use bits::small::power;
@@ -32,11 +33,7 @@ pub fn read_upto(c: Cursor, s: &[u8], most: usize, top: u32) -> Read
         Read::Took(z, d) => {
             let m = z as usize;
             let p = power(m);
-            match between(d, s, m, 0, most_after(p, top)) {
-                Read::Took(r, e) => Read::Took(p + r, e),
-                Read::Cut => Read::Cut,
-                Read::Bad(q) => Read::Bad(q),
-            }
+            raised(between(d, s, m, 0, most_after(p, top)), p)
         }
         Read::Cut => Read::Cut,
         Read::Bad(q) => Read::Bad(q),

@@ -4,7 +4,6 @@ use bits::Cursor;
 
 pub mod delta;
 pub mod gamma;
-pub mod glimpse;
 pub mod parts;
 pub mod rice;
 pub mod variable_byte;

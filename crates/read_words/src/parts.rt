@@ -1,9 +1,10 @@
 // The two parts that words are made of: zeros and a one, and a field that holds the numbers from one to another.
+ghost use mathlib.Core.Path.{_≡_};
 ghost use Prim.Native.Nat.{_+_, _-_, _^_, _≤_, _<_};
 ghost use lib.ListN.{length};
 ghost use Rattle.bits.specs.Cursor.{Within};
 ghost use Rattle.layout.specs.Bits.{inBits};
-ghost use Rattle.read_words.specs.Told.{ToldWord, Upto, run, Among, Live};
+ghost use Rattle.read_words.specs.Told.{ToldWord, Upto, run, Among, Live, made, Fits};
 use crate::Read;
 use bits::BitPos;
 use bits::Cursor;
@@ -67,5 +68,17 @@ pub fn between(c: Cursor, s: &[u8], n: usize, lo: u64, hi: u64) -> Read
             Read::Cut
         }
         Field::Cut => Read::Cut,
+    }
+}
+
+// What is told of the last part of a word, told of the word, which is `by` and that part.
+pub(crate) fn raised(r: Read, by: u32) -> Read
+    requires { ⌜ Fits by r ⌝ }
+    ensures { λ q. ⌜ q ≡ made (λ w. by + w) r ⌝ }
+{
+    match r {
+        Read::Took(w, d) => Read::Took(by + w, d),
+        Read::Cut => Read::Cut,
+        Read::Bad(p) => Read::Bad(p),
     }
 }

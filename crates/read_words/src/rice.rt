@@ -7,6 +7,7 @@ ghost use Rattle.bits.specs.Cursor.{Within};
 ghost use Rattle.read_words.specs.Told.{ToldWord};
 use crate::Read;
 use crate::parts::between;
+use crate::parts::raised;
 use crate::parts::zeros;
 use bits::Cursor;
 use bits::small::power;
@@ -39,11 +40,7 @@ pub fn read(c: Cursor, s: &[u8], k: usize) -> Read
     match zeros(c, s, most_zeros(p)) {
         Read::Took(q, d) => {
             let base = q as u64 * p as u64;
-            match between(d, s, k, 0, most_after(p, base)) {
-                Read::Took(r, e) => Read::Took((base + r as u64 + 1) as u32, e),
-                Read::Cut => Read::Cut,
-                Read::Bad(t) => Read::Bad(t),
-            }
+            raised(between(d, s, k, 0, most_after(p, base)), (base + 1) as u32)
         }
         Read::Cut => Read::Cut,
         Read::Bad(t) => Read::Bad(t),

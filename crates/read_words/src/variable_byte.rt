@@ -24,11 +24,7 @@ fn unit(c: Cursor, s: &[u8], most: u64, lo: u64) -> Read
     ensures { λ r. ⌜ ToldWord (FlagAndGroup most lo) (inBits 8) (now (s .entry)) c r ⌝ }
 {
     match parts::between(c, s, 1, 0, most) {
-        Read::Took(flag, d) => match parts::between(d, s, 7, lo, 127) {
-            Read::Took(group, e) => Read::Took(flag * 128 + group, e),
-            Read::Cut => Read::Cut,
-            Read::Bad(p) => Read::Bad(p),
-        },
+        Read::Took(flag, d) => parts::raised(parts::between(d, s, 7, lo, 127), flag * 128),
         Read::Cut => Read::Cut,
         Read::Bad(p) => Read::Bad(p),
     }

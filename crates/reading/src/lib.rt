@@ -1,8 +1,10 @@
-// What reading at a cursor comes to: why a reader refuses, and how far it has come.
+// What reading at a cursor comes to: where a reader reads, why it refuses, and how far it has come.
 ghost use mathlib.Core.Path.{_≡_};
 ghost use Rattle.reading.specs.Refusals.{refusalNumber};
 use bits::BitPos;
 use bits::Cursor;
+
+pub mod place;
 
 // Why a reader refuses: document 01's answers 5 to 13.
 pub enum Refusal {

@@ -5,10 +5,10 @@ ghost use lib.ListN.{length, getD};
 ghost use Rattle.format.specs.Limits.{longestList, largestInstant};
 ghost use Rattle.format.specs.Interpolative.{width, interpolative};
 ghost use Rattle.format.specs.Laws.Interpolative.{NeverFalls};
-ghost use Rattle.bits.specs.Pen.{Room, Drawn};
+ghost use Rattle.pen.specs.Pen.{Room, Drawn};
 ghost use Rattle.write_interpolative.specs.Parts.{image, Ready, Halves, Body};
-use bits::Pen;
 use bits::length;
+use pen::Pen;
 use write_words::delta;
 
 // The fewest bits that tell so many possible values apart.

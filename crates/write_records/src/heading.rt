@@ -5,12 +5,12 @@ ghost use lib.ListN.{length};
 ghost use Rattle.layout.specs.Bits.{inBits};
 ghost use Rattle.format.specs.Limits.{longestList, largestParameter};
 ghost use Rattle.headings.specs.Headings.{carried, carriedWidth};
-ghost use Rattle.bits.specs.Pen.{Room, Drawn};
+ghost use Rattle.pen.specs.Pen.{Room, Drawn};
 ghost use Rattle.write_records.specs.Images.{front, headingImage};
-use bits::Pen;
 use bits::small::power;
 use headings::Code;
 use headings::Heading;
+use pen::Pen;
 use write_words::gamma;
 
 // Code, kind and parameter as one number.

@@ -6,7 +6,7 @@ ghost use lib.IntN.{pos};
 ghost use lib.ListN.{length};
 ghost use Rattle.format.specs.Limits.{longestBuffer};
 ghost use Rattle.format.specs.Writing.{Puts};
-ghost use Rattle.bits.specs.Pen.{Room, Drawn};
+ghost use Rattle.pen.specs.Pen.{Room, Drawn};
 ghost use Rattle.write_records.specs.Written.{Written};
 ghost use Rattle.write_records.specs.Images.{recordImage, bodyImage};
 ghost use Rattle.write_records.specs.Bodies.{UnsignedRecord};
@@ -14,9 +14,9 @@ ghost use Rattle.write_records.specs.Put.{putOutcome};
 use crate::Put;
 use crate::heading;
 use bits::BitPos;
-use bits::Pen;
 use headings::Heading;
 use headings::bodies::Body;
+use pen::Pen;
 
 fn count_body(h: Heading, values: &[u32]) -> u64
     requires { ⌜ UnsignedRecord h (now values) ⌝ }

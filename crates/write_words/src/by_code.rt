@@ -3,14 +3,14 @@ ghost use mathlib.Core.Path.{_≡_};
 ghost use Prim.Native.Nat.{_≤_};
 ghost use lib.ListN.{length};
 ghost use Rattle.format.specs.Codes.{Word};
-ghost use Rattle.bits.specs.Pen.{Room, Drawn};
+ghost use Rattle.pen.specs.Pen.{Room, Drawn};
 ghost use Rattle.headings.specs.Bodies.{imageBy, Known};
 use crate::delta;
 use crate::gamma;
 use crate::rice;
 use crate::variable_byte;
-use bits::Pen;
 use headings::bodies::Words;
+use pen::Pen;
 
 pub fn count(code: Words, w: u32) -> u64
     requires { ⌜ Known code × Word w ⌝ }

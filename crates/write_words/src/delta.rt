@@ -3,10 +3,10 @@ ghost use mathlib.Core.Path.{_≡_};
 ghost use Prim.Native.Nat.{_≤_};
 ghost use lib.ListN.{length};
 ghost use Rattle.format.specs.Codes.{Word, delta};
-ghost use Rattle.bits.specs.Pen.{Room, Drawn};
+ghost use Rattle.pen.specs.Pen.{Room, Drawn};
 use crate::gamma;
-use bits::Pen;
 use bits::length;
+use pen::Pen;
 
 pub fn count(w: u32) -> u64
     requires { ⌜ Word w ⌝ }

@@ -3,9 +3,9 @@ ghost use mathlib.Core.Path.{_≡_};
 ghost use Prim.Native.Nat.{_≤_};
 ghost use lib.ListN.{length};
 ghost use Rattle.format.specs.Codes.{Word, rice};
-ghost use Rattle.bits.specs.Pen.{Room, Drawn};
-use bits::Pen;
+ghost use Rattle.pen.specs.Pen.{Room, Drawn};
 use bits::small::power;
+use pen::Pen;
 
 pub fn count(k: usize, w: u32) -> u64
     requires { ⌜ Word w × (k ≤ 31) ⌝ }

@@ -5,9 +5,9 @@ ghost use Prim.Native.Nat.{_/_, _^_, _≤_, _<_};
 ghost use lib.ListN.{length};
 ghost use Rattle.layout.specs.Bits.{inBits};
 ghost use Rattle.format.specs.Codes.{Word, digits, another, variableByte};
-ghost use Rattle.bits.specs.Pen.{Room, Drawn};
-use bits::Pen;
+ghost use Rattle.pen.specs.Pen.{Room, Drawn};
 use bits::length;
+use pen::Pen;
 
 // How many groups hold a word.
 fn groups(w: u32) -> usize

@@ -12,8 +12,8 @@ use Rattle.format.specs.Answers.{Outcome, Span}
 use Rattle.format.specs.Reading.{Reader, askedFor, LookUp, LooksUp, Search, Searches}
 use Rattle.format.specs.Laws.Reading.{entry-same, looks-up-one, searches-one}
 use Rattle.read_records.specs.declared.Read.{Read}
-use Rattle.moortangle.specs.Reads.{ReadsInto}
-use Rattle.moortangle.specs.Laws.Unique.{read-one}
+use Rattle.read_entries.specs.Reads.{ReadsInto}
+use Rattle.read_entries.specs.Laws.Unique.{read-one}
 
 module _ (bytes bytes′ : List ℕ) (start stop : ℕ) (s : Span bytes start stop) (s′ : Span bytes′ start stop) (e : window bytes start stop ≡ window bytes′ start stop) where
   pub read-agrees : (f : Family) (kind : ℕ) (old new new′ : List ℤ) (a b : Read) → ReadsInto bytes start stop f kind old a new → ReadsInto bytes′ start stop f kind old b new′ → (a ≡ b) × (new ≡ new′)

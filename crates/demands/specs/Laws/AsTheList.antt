@@ -21,7 +21,7 @@ use Rattle.bits.specs.declared.BitPos.{BitPos}
 use Rattle.headings.specs.Headings.{headed}
 use Rattle.headings.specs.declared.Heading.{Heading}
 use Rattle.read_records.specs.declared.Read.the-variants as OfRead
-use Rattle.moortangle.specs.Reads.{ReadsInto}
+use Rattle.read_entries.specs.Reads.{ReadsInto}
 
 -- ---- of a record that `read` gives
 

@@ -18,20 +18,22 @@ use Rattle.format.specs.Laws.Kinds.{kind-one}
 use Rattle.format.specs.Laws.Demand3.{stopped-read, stopped-look-up, stopped-search}
 use Rattle.bits.specs.declared.BitPos.{BitPos}
 use Rattle.reading.specs.declared.Refusal.the-variants.{CutShort}
-use Rattle.read_records.specs.Told.{itemOf, lookedUp, lookedUpCorrection, searched}
-use Rattle.read_records.specs.Laws.Answers.{item-same, looked-up-same, correction-same, searched-same}
+use Rattle.read_records.specs.Told.{itemOf}
+use Rattle.find_in_records.specs.Told.{lookedUp, lookedUpCorrection, searched}
+use Rattle.read_records.specs.Laws.Answers.{item-same}
+use Rattle.find_in_records.specs.Laws.Answers.{looked-up-same, correction-same, searched-same}
 use Rattle.read_records.specs.declared.Read.{Read}
 use Rattle.read_records.specs.declared.Read.the-variants as OfRead
-use Rattle.read_records.specs.declared.LookedUp.{LookedUp}
-use Rattle.read_records.specs.declared.LookedUp.the-variants as OfLookedUp
-use Rattle.read_records.specs.declared.LookedUpCorrection.{LookedUpCorrection}
-use Rattle.read_records.specs.declared.LookedUpCorrection.the-variants as OfCorrection
-use Rattle.read_records.specs.declared.Searched.{Searched}
-use Rattle.read_records.specs.declared.Searched.the-variants as OfSearched
-use Rattle.moortangle.specs.declared.Wrote.the-variants.{Done}
+use Rattle.find_in_records.specs.declared.LookedUp.{LookedUp}
+use Rattle.find_in_records.specs.declared.LookedUp.the-variants as OfLookedUp
+use Rattle.find_in_records.specs.declared.LookedUpCorrection.{LookedUpCorrection}
+use Rattle.find_in_records.specs.declared.LookedUpCorrection.the-variants as OfCorrection
+use Rattle.find_in_records.specs.declared.Searched.{Searched}
+use Rattle.find_in_records.specs.declared.Searched.the-variants as OfSearched
+use Rattle.writing.specs.declared.Wrote.the-variants.{Done}
 use Rattle.demands.specs.Calls.{Call}
-use Rattle.moortangle.specs.Reads.{ReadsInto}
-use Rattle.moortangle.specs.Wrote.{outcomeOf}
+use Rattle.read_entries.specs.Reads.{ReadsInto}
+use Rattle.writing.specs.Wrote.{outcomeOf}
 use Rattle.demands.specs.Laws.RoundTrip.{stands}
 use Rattle.demands.specs.Laws.InTurn.{Leaves, leaves}
 

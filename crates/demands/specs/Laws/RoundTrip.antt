@@ -24,7 +24,7 @@ use Rattle.headings.specs.declared.Heading.{Heading}
 use Rattle.read_records.specs.Told.{itemOf}
 use Rattle.read_records.specs.declared.Read.{Read}
 use Rattle.read_records.specs.declared.Read.the-variants as OfRead
-use Rattle.moortangle.specs.Reads.{ReadsInto}
+use Rattle.read_entries.specs.Reads.{ReadsInto}
 use Rattle.demands.specs.Calls.{Back}
 
 -- ---- read after write: the list comes back, equal instants as two, with code, kind and parameter, 0 where the code has none

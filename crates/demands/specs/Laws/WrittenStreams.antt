@@ -30,9 +30,9 @@ use Rattle.read_streams.specs.Told.{checked}
 use Rattle.read_streams.specs.Laws.Same.{checked-same}
 use Rattle.read_streams.specs.declared.Checked.{Checked}
 use Rattle.read_streams.specs.declared.Checked.the-variants as OfChecked
-use Rattle.moortangle.specs.declared.Wrote.the-variants.{Done}
+use Rattle.writing.specs.declared.Wrote.the-variants.{Done}
 use Rattle.demands.specs.Calls.{Call, WrittenInTurn, valuesOf, ReadInTurn}
-use Rattle.moortangle.specs.Wrote.{outcomeOf}
+use Rattle.writing.specs.Wrote.{outcomeOf}
 use Rattle.demands.specs.Laws.InTurn.{AskInTurn, InARow, in-a-row, all-valid}
 
 -- ---- writes from bit 0, then the end mark: a stream

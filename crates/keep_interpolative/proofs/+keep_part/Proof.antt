@@ -1,7 +1,7 @@
 use Prim.Native.Nat.{_-_, _/_}
 use Rattle.format.specs.Laws.Parts.{node}
-use Rattle.read_interpolative.specs.Laws.Next.{lies}
-use Rattle.read_interpolative.specs.Laws.Parts.{middle-halts, middle-alone, left-halts, both-halves}
+use Rattle.read_middles.specs.Laws.Next.{lies}
+use Rattle.read_middles.specs.Laws.Parts.{middle-halts, middle-alone, left-halts, both-halves}
 use Rattle.keep_interpolative.specs.Laws.Stored.{kept-none, stored-alone, stored-both}
 use borrow.Author.Needs.{needs}
 use native.Mathlib.Omega.{arith}
@@ -11,7 +11,7 @@ use borrow.Fn.PlainCycle.{Measures, is, falls, and}
 use Rattle.keep_interpolative.proofs.keep_part.Reads as keep-part
 use Rattle.keep_interpolative.proofs.keep_part.Kinds as keep-part-kinds
 use Rattle.keep_interpolative.proofs.+keep_part.Lts-keep_part as keep-part-lts
-use Rattle.read_interpolative.proofs.read_middle.Reads as read-middle-reads
+use Rattle.read_middles.proofs.read_middle.Reads as read-middle-reads
 use Rattle.keep_interpolative.proofs.store.Reads as store-reads
 use Rattle.keep_interpolative.proofs.+keep_part.{statement}
 use Rattle.keep_interpolative.proofs.+keep_part.Tie.{close}

@@ -14,9 +14,9 @@ use Rattle.reading.specs.Judging as Judging
 use Rattle.reading.specs.Judging.{ToldKept}
 use Rattle.reading.specs.Laws.Naturals.{drop-naturals}
 use Rattle.reading.specs.declared.Kept.the-variants.{Whole}
-use Rattle.read_interpolative.specs.Parts.{instantsOf, cursor, LastRead}
-use Rattle.read_interpolative.specs.Laws.Body.{stop-small}
-use Rattle.read_interpolative.specs.Laws.Next.{went}
+use Rattle.read_middles.specs.Parts.{instantsOf, cursor, LastRead}
+use Rattle.read_middles.specs.Laws.Body.{stop-small}
+use Rattle.read_middles.specs.Laws.Next.{went}
 use Rattle.keep_interpolative.specs.Parts.{KeptPart}
 use Rattle.keep_interpolative.specs.Laws.Stored.{sets-append}
 

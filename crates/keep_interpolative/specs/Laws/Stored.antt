@@ -7,9 +7,9 @@ use lib.ListN.{length, set}
 use lib.Seq.{sets, set-comm}
 use Rattle.format.specs.Laws.Interpolative.{sinking, length-sinking}
 use Rattle.bits.specs.Cursor.{Within}
-use Rattle.read_interpolative.specs.Parts.{cursor, goes}
-use Rattle.read_interpolative.specs.Laws.Instants.{instants-middle}
-use Rattle.read_interpolative.specs.Laws.Parts.{no-elements}
+use Rattle.read_middles.specs.Parts.{cursor, goes}
+use Rattle.read_middles.specs.Laws.Instants.{instants-middle}
+use Rattle.read_middles.specs.Laws.Parts.{no-elements}
 use Rattle.keep_interpolative.specs.Parts.{KeptPart}
 
 pub sets-append : (a b d : List ℕ) (i : ℕ) → sets d i (a ++ b) ≡ sets (sets d i a) (i + length a) b

@@ -7,9 +7,9 @@ use lib.IntN.{ℤ}
 use lib.ListN.{length}
 use Rattle.layout.specs.Layout.{Layout}
 use Rattle.format.specs.Kinds as Kinds
-use Rattle.format.specs.Kinds.{Kind, kindNumber, Signed}
+use Rattle.format.specs.Kinds.{Kind, Family, familyOf, kindNumber, Signed}
 use Rattle.format.specs.Records as Records
-use Rattle.format.specs.Records.{Asked, wordsBy, body}
+use Rattle.format.specs.Records.{Asked, This, wordsBy, body}
 use Rattle.format.specs.Laws.Bodies.{body-list}
 use Rattle.bits.specs.Cursor.{Taken}
 use Rattle.bits.specs.declared.Cursor.{Cursor}
@@ -24,7 +24,7 @@ use Rattle.reading.specs.Judging.{ToldJudged, ToldCorrections, ToldKept}
 use Rattle.reading.specs.declared.Judged.{Judged}
 use Rattle.reading.specs.declared.JudgedCorrections.{JudgedCorrections}
 use Rattle.reading.specs.declared.Kept.{Kept}
-use Rattle.read_headings.specs.Told.{bodyOf, Legal}
+use Rattle.read_headings.specs.Told.{bodyOf, Legal, Headed}
 use Rattle.read_bodies.specs.Bodies.{HeadingFor}
 
 -- ---- word by word, or by halves
@@ -61,3 +61,12 @@ module _ {L M : Layout (List ℤ)} (e : L ≡ M) {s : List ℕ} {c : Cursor} whe
 -- as many values as the heading's count says
 pub counted-values : {q : Asked} {h : Heading} {n : ℕ} → Legal q h n → {s : List ℕ} {c d : Cursor} {vs : List ℤ} → Taken (bodyOf h n) s c vs d → length vs ≡ n
 counted-values {h = h} {n = n} l {vs = vs} t = body-list (codeOf (h .code)) (carried (h .code)) (kindOf (h .kind)) n vs (l .instants) (t .takes .valid) .0
+
+-- ---- after a heading of the kind that was asked for
+
+pub headed-for : {t : Kind} {room : ℕ} {s : List ℕ} {c : Cursor} {h : Heading} {n : ℕ} {d : Cursor} → Headed (record { wanted = This t; room = room }) s c h n d → HeadingFor (familyOf t) h
+headed-for k = record { fine = record { parameter = k .legal .parameter; instants = k .legal .instants }; family = ap familyOf (k .legal .wanted) }
+
+-- of a family that is known otherwise
+pub for-family : {f g : Family} {h : Heading} → HeadingFor f h → f ≡ g → HeadingFor g h
+for-family {h = h} k e = record { fine = k .fine; family = k .family ∙ e }

@@ -21,8 +21,8 @@ parameter-field-requires c κs = search (needs, after-kind)
 enum-known-whole : tie.Need-enum-known-whole
 enum-known-whole c = search needs
 
-count-field-requires : tie.Need-count-field-requires
-count-field-requires c κs = search (needs, after-parameter)
+read-requires : tie.Need-read-requires
+read-requires c κs = search (needs, after-parameter)
 
 enum-known-n : tie.Need-enum-known-n
 enum-known-n c = search needs
@@ -61,7 +61,7 @@ returns c =
     let kind = parameter .before .before .before .before in
     let code = kind .before .before .before .before in
     body-told (code .before .before .pre) (code .code-field .ensures) (kind .before .before .code .given .1) (kind .kind-field .ensures) (parameter .before .before .kind .given .1)
-    (parameter .parameter-field .ensures) (count .before .before .whole .given .1) (count .count-field .ensures) (c .before .n .given .1)
+    (parameter .parameter-field .ensures) (count .before .before .whole .given .1) (count .read .ensures) (c .before .n .given .1)
 
 returns-2 : tie.Need-returns-2
 returns-2 c =
@@ -70,7 +70,7 @@ returns-2 c =
     let kind = parameter .before .before .before .before in
     let code = kind .before .before .before .before in
     no-count-told (code .before .before .pre) (code .code-field .ensures) (kind .before .before .code .given .1) (kind .kind-field .ensures) (parameter .before .before .kind .given .1)
-    (parameter .parameter-field .ensures) (count .before .before .whole .given .1) (count .count-field .ensures) (c .before .before .m .given .1) (c .at .ensures)
+    (parameter .parameter-field .ensures) (count .before .before .whole .given .1) (count .read .ensures) (c .before .before .m .given .1) (c .at .ensures)
 
 returns-3 : tie.Need-returns-3
 returns-3 c = search (needs, no-parameter-told)
@@ -94,7 +94,7 @@ read-spec =
     enum-known-kind
     parameter-field-requires
     enum-known-whole
-    count-field-requires
+    read-requires
     enum-known-n
     enum-known-m
     at-requires

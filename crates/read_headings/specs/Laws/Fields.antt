@@ -1,29 +1,23 @@
 -- The fields of a heading, each judged.
 use mathlib.Core.Path.{_≡_, refl, sym, ap, _∙_, subst}
-use mathlib.Core.Bool.{Bool, true, false, not}
+use mathlib.Core.Bool.{Bool, true, false}
 use mathlib.Core.List.{List, _++_}
-use Prim.Native.Nat.{ℕ, _+_, _-_, _≤_, _<_}
+use Prim.Native.Nat.{ℕ, _<_}
 use native.Mathlib.Omega.{arith}
-use borrow.Author.Tests.{eqb-true, eqb-false}
-use lib.Dec.{eqb}
 use lib.ListN.{length, length-append}
 use Rattle.layout.specs.Bits.{inBits}
-use Rattle.layout.specs.Layout.{Takes, FixedNo, short, word, fixed, only}
+use Rattle.layout.specs.Layout.{Takes, FixedNo, short, fixed}
 use Rattle.layout.specs.Laws.Bits.{inBits-one, inBits-zero}
-use Rattle.format.specs.Limits.{longestList}
-use Rattle.format.specs.Codes.{Word, gamma}
 use Rattle.format.specs.Kinds as Kinds
 use Rattle.format.specs.Kinds.{kindNumber}
 use Rattle.format.specs.Records as Records
 use Rattle.format.specs.Records.{codeNumber, Wants, codeField, parameterField}
 use Rattle.format.specs.Streams.{endMark}
 use Rattle.format.specs.Reading.{NoEnd}
-use Rattle.format.specs.Laws.Codes.{gamma-free}
 use Rattle.format.specs.Laws.Kinds.{kind-one}
 use Rattle.format.specs.Laws.Records.{code-one, code-range}
 use Rattle.bits.specs.Cursor.{Within, left, Taken, Refuses, ToldField}
 use Rattle.bits.specs.Laws.Cursor.{field-taken}
-use Rattle.bits.specs.declared.BitPos.{BitPos}
 use Rattle.bits.specs.declared.Cursor.{Cursor}
 use Rattle.bits.specs.declared.Field.{Field}
 use Rattle.bits.specs.declared.Field.the-variants as OfField
@@ -36,23 +30,17 @@ use Rattle.headings.specs.declared.CodeChoice.the-variants as OfCodeChoice
 use Rattle.headings.specs.declared.Kind.{Kind}
 use Rattle.headings.specs.declared.KindChoice.{KindChoice}
 use Rattle.headings.specs.declared.KindChoice.the-variants as OfKindChoice
-use Rattle.read_words.specs.Told.{ToldWord}
-use Rattle.read_words.specs.Laws.Told.{was-taken}
-use Rattle.read_words.specs.declared.Read.{Read}
-use Rattle.read_words.specs.declared.Read.the-variants as OfRead
+use Rattle.wanted.specs.Wanted.{Goes, Unless}
+use Rattle.wanted.specs.Laws.Wanted.{holds-if, fails-if}
 use Rattle.reading.specs.Laws.Steps.{taken-only, no-field, no-value, taken-known}
-use Rattle.reading.specs.Laws.Words.{word-cut, word-bad}
-use Rattle.reading.specs.declared.Refusal.the-variants.{NoRoom, CutShort, Unknown, TooMany, BadWord}
-use Rattle.read_headings.specs.Told.{wantedOf, Ended}
+use Rattle.reading.specs.declared.Refusal.the-variants.{CutShort, Unknown}
+use Rattle.read_headings.specs.Told.{Ended}
 use Rattle.read_headings.specs.Fields as Fields
-use Rattle.read_headings.specs.Fields.{ToldCodeField, Goes, Unless, holds, fails, ToldKindField, ToldParameterField, ToldCountField}
+use Rattle.read_headings.specs.Fields.{ToldCodeField, ToldKindField, ToldParameterField}
 use Rattle.read_headings.specs.Laws.Told.{field-cut}
-use Rattle.read_headings.specs.declared.Wanted.{Wanted}
-use Rattle.read_headings.specs.declared.Wanted.the-variants.{Any, This}
 use Rattle.read_headings.specs.declared.CodeField.the-variants as OfCode
 use Rattle.read_headings.specs.declared.KindField.the-variants as OfKind
 use Rattle.read_headings.specs.declared.ParameterField.the-variants as OfParameter
-use Rattle.read_headings.specs.declared.CountField.the-variants as OfCount
 
 -- ---- the code, and the end mark in its place
 
@@ -116,37 +104,6 @@ module _ {s : List ℕ} {c : Cursor} {r : Field} (t : ToldField 4 s c r) where
 
 -- ---- the kind
 
--- a test that is one comparison says exactly what the comparison does
-unless-equal : {P : Type 0} (a b : ℕ) → (P → a ≡ b) → (a ≡ b → P) → Unless P (not (eqb a b))
-unless-equal {P} a b f g = go (eqb a b) refl
-  where
-    go : (x : Bool) → eqb a b ≡ x → Unless P (not x)
-    go true e = holds (g (eqb-true a b e))
-    go false e = fails (λ p. eqb-false a b e (f p))
-
-pub any-wants : (w : Wanted) (t : Kinds.Kind) → w ≡ Any → Unless (Wants (wantedOf w) t) false
-any-wants w t e = subst (λ (w : Wanted). Unless (Wants (wantedOf w) t) false) (sym e) (holds tt)
-
-pub this-wants : (w : Wanted) (u t : Kind) (a b : ℕ) → w ≡ This u → a ≡ kindNumber (kindOf t) → b ≡ kindNumber (kindOf u) → Unless (Wants (wantedOf w) (kindOf t)) (not (eqb a b))
-this-wants w u t a b e f g =
-    subst (λ (w : Wanted). Unless (Wants (wantedOf w) (kindOf t)) (not (eqb a b))) (sym e)
-    (unless-equal a b (λ p. f ∙ ap kindNumber p ∙ sym g) (λ n. kind-one (kindOf t) (kindOf u) (sym f ∙ n ∙ g)))
-
-pub other-goes : {x : Records.Code} {t : Kinds.Kind} (n : ℕ) → n ≡ codeNumber x → (n ≡ 5 → ⊥) → Unless (Goes x t) false
-other-goes n e p = holds (λ f. absurd (p (e ∙ ap codeNumber f)))
-
-pub five-goes : {x : Records.Code} {t : Kinds.Kind} (n a : ℕ) → n ≡ codeNumber x → n ≡ 5 → a ≡ kindNumber t → Unless (Goes x t) (not (eqb a 1))
-five-goes {x} {t} n a e f g =
-    unless-equal a 1 (λ h. g ∙ ap kindNumber (h (code-one x Records.Interpolative (sym e ∙ f)))) (λ i h. kind-one t Kinds.Instants (sym g ∙ i))
-
-holds-if : {P : Type 0} {b : Bool} → Unless P b → b ≡ false → P
-holds-if (holds p) e = p
-holds-if (fails p) e = let z : _≡_ {A = ℕ} 0 1 = cc in absurd (omega arith)
-
-fails-if : {P : Type 0} {b : Bool} → Unless P b → b ≡ true → P → ⊥
-fails-if (holds p) e = let z : _≡_ {A = ℕ} 0 1 = cc in absurd (omega arith)
-fails-if (fails p) e = p
-
 kind-number : {v : ℕ} {r : KindChoice} {t : Kind} → ToldNumber v r → r ≡ OfKindChoice.Is t → kindNumber (kindOf t) ≡ v
 kind-number {v} {r} {t} h e = go (subst (ToldNumber v) e h)
   where
@@ -208,30 +165,3 @@ module _ (x : Code) {s : List ℕ} {c : Cursor} where
 
     pub parameter-cut : r ≡ OfField.Cut → ToldParameterField x s c OfParameter.Cut
     parameter-cut e = Fields.cut (subst (λ (y : Records.Code). Refuses (parameterField y) s c 6 (c .at)) (is-rice x n i j) (field-cut t e))
-
--- ---- the count
-
-module _ {s : List ℕ} {c : Cursor} {r : Read} (t : ToldWord Word gamma s c r) where
-  pub word-some : {w : ℕ} {d : Cursor} → r ≡ OfRead.Took w d → 1 ≤ w
-  word-some e = was-taken t e .takes .valid .0
-
-  module _ (room : ℕ) {w : ℕ} {d : Cursor} (e : r ≡ OfRead.Took w d) (n : ℕ) (f : n ≡ w - 1) where
-    few : n ≤ longestList → Taken (only 8 (λ n. n ≤ longestList) (λ n. n + 1) (word Word gamma)) s c n d
-    few h = taken-only n h (omega (arith, f, word-some e)) (was-taken t e)
-
-    -- "count (8, then 5)"
-    pub count-many : Within c (length s) → longestList < n → ToldCountField room s c (OfCount.No TooMany)
-    count-many i h = Fields.no {m = TooMany} (no-field (no-value i (was-taken t e) (λ b g k. omega arith)))
-
-    pub count-above : Within c (length s) → n ≤ longestList → room < n → ToldCountField room s c (OfCount.No NoRoom)
-    count-above i h k = Fields.no {m = NoRoom} (no-value i (few h) (λ b g l. omega arith))
-
-    pub count-is : n ≤ longestList → n ≤ room → ToldCountField room s c (OfCount.Is n d)
-    count-is h k = Fields.is {n = n} (taken-only n k refl (few h))
-
-  module _ {room : ℕ} (w : Within c (length s)) where
-    pub count-cut : r ≡ OfRead.Cut → ToldCountField room s c (OfCount.No CutShort)
-    count-cut e = Fields.no {m = CutShort} (no-field (no-field (word-cut t w e)))
-
-    pub count-bad : {p : BitPos} → r ≡ OfRead.Bad p → ToldCountField room s c (OfCount.No BadWord)
-    count-bad e = Fields.no {m = BadWord} (no-field (no-field (word-bad t w gamma-free e)))

@@ -26,10 +26,14 @@ use Rattle.reading.specs.Laws.Steps.{no-first, no-second, no-value, taken-known
 use Rattle.reading.specs.Laws.Reached.{on, past, parts}
 use Rattle.reading.specs.declared.Refusal.{Refusal}
 use Rattle.reading.specs.declared.Refusal.the-variants.{CutShort}
+use Rattle.read_counts.specs.Told.{ToldCountField}
+use Rattle.read_counts.specs.Laws.Told.{was-count, was-no-count}
+use Rattle.read_counts.specs.declared.CountField.{CountField}
+use Rattle.read_counts.specs.declared.CountField.the-variants as OfCount
 use Rattle.read_headings.specs.Told as Told
 use Rattle.read_headings.specs.Told.{Ended, headingThen, headingFor, Headed, Refused, ToldHeading}
-use Rattle.read_headings.specs.Fields.{ToldCodeField, ToldKindField, ToldParameterField, ToldCountField}
-use Rattle.read_headings.specs.Laws.Told.{was-code, was-mark, was-no-code, was-kind, was-no-kind, was-parameter, was-no-parameter, was-count, was-no-count}
+use Rattle.read_headings.specs.Fields.{ToldCodeField, ToldKindField, ToldParameterField}
+use Rattle.read_headings.specs.Laws.Told.{was-code, was-mark, was-no-code, was-kind, was-no-kind, was-parameter, was-no-parameter}
 use Rattle.read_headings.specs.Laws.Fields.{ended-zero, code-no-end}
 use Rattle.read_headings.specs.declared.Begun.the-variants as OfBegun
 use Rattle.read_headings.specs.declared.CodeField.{CodeField}
@@ -38,8 +42,6 @@ use Rattle.read_headings.specs.declared.KindField.{KindField}
 use Rattle.read_headings.specs.declared.KindField.the-variants as OfKind
 use Rattle.read_headings.specs.declared.ParameterField.{ParameterField}
 use Rattle.read_headings.specs.declared.ParameterField.the-variants as OfParameter
-use Rattle.read_headings.specs.declared.CountField.{CountField}
-use Rattle.read_headings.specs.declared.CountField.the-variants as OfCount
 
 -- ---- past each field, whatever comes after the count
 

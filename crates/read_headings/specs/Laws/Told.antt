@@ -4,7 +4,7 @@ use mathlib.Core.List.{List}
 use Prim.Native.Nat.{ℕ}
 use native.Mathlib.Omega.{arith}
 use Rattle.format.specs.Records as Records
-use Rattle.format.specs.Records.{Asked, codeField, kindField, countField, parameterField}
+use Rattle.format.specs.Records.{Asked, codeField, kindField, parameterField}
 use Rattle.format.specs.Reading.{NoEnd}
 use Rattle.layout.specs.Layout.{fixed}
 use Rattle.bits.specs.Cursor.{left, Taken, Refuses, ToldField, took, cut}
@@ -21,7 +21,7 @@ use Rattle.reading.specs.declared.Refusal.{Refusal}
 use Rattle.read_headings.specs.Told as Told
 use Rattle.read_headings.specs.Told.{Ended, Headed, Refused, ToldHeading}
 use Rattle.read_headings.specs.Fields as Fields
-use Rattle.read_headings.specs.Fields.{ToldCodeField, ToldKindField, CodeWith, ToldParameterField, ToldCountField}
+use Rattle.read_headings.specs.Fields.{ToldCodeField, ToldKindField, CodeWith, ToldParameterField}
 use Rattle.read_headings.specs.declared.Begun.{Begun}
 use Rattle.read_headings.specs.declared.Begun.the-variants as OfBegun
 use Rattle.read_headings.specs.declared.CodeField.{CodeField}
@@ -30,8 +30,6 @@ use Rattle.read_headings.specs.declared.KindField.{KindField}
 use Rattle.read_headings.specs.declared.KindField.the-variants as OfKind
 use Rattle.read_headings.specs.declared.ParameterField.{ParameterField}
 use Rattle.read_headings.specs.declared.ParameterField.the-variants as OfParameter
-use Rattle.read_headings.specs.declared.CountField.{CountField}
-use Rattle.read_headings.specs.declared.CountField.the-variants as OfCount
 
 -- ---- of the heading
 
@@ -108,14 +106,3 @@ module _ {s : List ℕ} {c : Cursor} where
   pub was-no-parameter : {x : Code} {r : ParameterField} → ToldParameterField x s c r → r ≡ OfParameter.Cut → Refuses (parameterField (codeOf x)) s c 6 (c .at)
   was-no-parameter (Fields.is k) e = let z : _≡_ {A = ℕ} 0 1 = cc in absurd (omega arith)
   was-no-parameter (Fields.cut k) e = k
-
-  pub was-count : {room : ℕ} {r : CountField} {n : ℕ} {d : Cursor} → ToldCountField room s c r → r ≡ OfCount.Is n d → Taken (countField room) s c n d
-  was-count {room = room} {n = n} {d = d} (Fields.is {n = m} {d = f} k) e =
-      let a : m ≡ n = cc in
-      let b : f ≡ d = cc in
-      subst₂ (λ (i : ℕ) (j : Cursor). Taken (countField room) s c i j) a b k
-  was-count (Fields.no k) e = let z : _≡_ {A = ℕ} 0 1 = cc in absurd (omega arith)
-
-  pub was-no-count : {room : ℕ} {r : CountField} {m : Refusal} → ToldCountField room s c r → r ≡ OfCount.No m → Refuses (countField room) s c (refusalNumber m) (c .at)
-  was-no-count (Fields.is k) e = let z : _≡_ {A = ℕ} 0 1 = cc in absurd (omega arith)
-  was-no-count {room = room} {m = m} (Fields.no {m = n} k) e = let f : n ≡ m = cc in subst (λ (x : Refusal). Refuses (countField room) s c (refusalNumber x) (c .at)) f k

@@ -13,9 +13,9 @@ use Rattle.headings.specs.declared.Heading.{Heading}
 use Rattle.reading.specs.Judging.{ToldKept}
 use Rattle.reading.specs.Laws.Judging.{kept-whole}
 use Rattle.reading.specs.Laws.Naturals.{take-naturals, drop-naturals}
+use Rattle.reading.specs.Laws.Stored.{stored-more}
 use Rattle.reading.specs.declared.Kept.{Kept}
 use Rattle.reading.specs.declared.Kept.the-variants as OfKept
-use Rattle.read_lists.specs.Laws.Lists.{stored-more}
 use Rattle.read_headings.specs.Told.{bodyOf}
 use Rattle.read_records.specs.Told as Told
 use Rattle.read_records.specs.Told.{ToldListed, Copied}

@@ -54,7 +54,7 @@ module _ (top t : ℕ) (small : top ≤ largestWord) (ht : Held 2 top t) where
       let v : Upward top (2 ^ m + r) = (omega arith, omega arith) in
       let (n, e, k) = sized {w = 2 ^ m + r} (v .0, omega arith) in
       let j : Held 2 (2 ^ m + r) m = record { low = omega arith; high = omega arith } in
-      let q : size (2 ^ m + r) - 1 ≡ m = let y = held-one (omega arith) k j in omega arith in
+      let q : size (2 ^ m + r) - 1 ≡ m = let y = held-one {m = n} (omega arith) k j in omega arith in
       (v, rw q (ap (λ (x : ℕ). (m, x)) (rw one-mul at (Pow.low 1 m l))))
 
   pub gamma-parts : Parts (Upto t) run After (λ m. inBits m) (Upward top) gamma
@@ -149,13 +149,13 @@ module _ (k : ℕ) where
   pub base-le : (q : ℕ) → q ≤ most → q * 2 ^ k ≤ 4294967294
   base-le q h = le-div-iff-mul-le (pow-pos k) .0 h
 
-  rice-joined : (q r : ℕ) → q ≤ most → Left q r → Word (q * 2 ^ k + r + 1) × (quot (q * 2 ^ k + r + 1) ≡ (q, r))
+  rice-joined : (q r : ℕ) → q ≤ most → Left q r → Word (q * 2 ^ k + 1 + r) × (quot (q * 2 ^ k + 1 + r) ≡ (q, r))
   unfolding quot
   rice-joined q r h g =
       let i = base-le q h in
       let l : r < 2 ^ k = g .2 in
       let m : r ≤ min (2 ^ k - 1) (4294967294 - q * 2 ^ k) = g .1 in
-      let e : q * 2 ^ k + r + 1 - 1 ≡ q * 2 ^ k + r = omega arith in
+      let e : q * 2 ^ k + 1 + r - 1 ≡ q * 2 ^ k + r = omega arith in
       ((omega arith, omega arith), rw e (ap₂ (λ (a b : ℕ). (a, b)) (Pow.high q k l) (Pow.low q k l)))
 
   pub rice-parts : Parts (Upto most) run Left (λ q. inBits k) Word (rice k)
@@ -164,9 +164,9 @@ module _ (k : ℕ) where
     free = splits-free (λ a b h l. run-splits a b);
     some = λ q h. (0, (omega arith, omega arith, pow-pos k));
     to = rice-to;
-    from = λ q r h l. let (v, e) = rice-joined q r h l in (q * 2 ^ k + r + 1, v, e);
+    from = λ q r h l. let (v, e) = rice-joined q r h l in (q * 2 ^ k + 1 + r, v, e);
   }
 
-  pub rice-made : (q r : ℕ) → q ≤ most → Left q r → Word (q * 2 ^ k + r + 1) × (rice-parts .parts (q * 2 ^ k + r + 1) ≡ (q, r))
+  pub rice-made : (q r : ℕ) → q ≤ most → Left q r → Word (q * 2 ^ k + 1 + r) × (rice-parts .parts (q * 2 ^ k + 1 + r) ≡ (q, r))
   unfolding rice-parts
   rice-made = rice-joined

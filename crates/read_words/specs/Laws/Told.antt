@@ -2,7 +2,7 @@
 use mathlib.Core.Path.{_≡_, sym, ap, _∙_, subst, subst₂}
 use mathlib.Core.Bool.{Bool}
 use mathlib.Core.List.{List}
-use Prim.Native.Nat.{ℕ, _-_, _≤_}
+use Prim.Native.Nat.{ℕ, _+_, _≤_}
 use native.Mathlib.Omega.{arith}
 use Rattle.layout.specs.Bits.{window}
 use Rattle.layout.specs.Layout.{Stops, word}
@@ -11,7 +11,7 @@ use Rattle.layout.specs.Laws.Parts.{Parts, first-stops, second-stops, first-die
 use Rattle.bits.specs.Cursor.{left, to, Taken}
 use Rattle.bits.specs.declared.BitPos.{BitPos}
 use Rattle.bits.specs.declared.Cursor.{Cursor}
-use Rattle.read_words.specs.Told.{ToldWord, took, cut, bad}
+use Rattle.read_words.specs.Told.{ToldWord, took, cut, bad, made, Fits}
 use Rattle.read_words.specs.declared.Read.{Read}
 use Rattle.read_words.specs.declared.Read.the-variants.{Took, Cut, Bad}
 
@@ -54,3 +54,14 @@ module _ {ok : ℕ → Type 0} {bits : ℕ → List Bool} {ok′ : ℕ → ℕ �
 
     pub both-took : (w : ℕ) {b : ℕ} {f : Cursor} → Taken (word (ok′ a) (bits′ a)) s d b f → Ok w → p .parts w ≡ (a, b) → ToldWord Ok Bits s c (Took w f)
     both-took w u k e = took (record { takes = both-takes p w k e (t .takes .front) (u .takes .front); within = u .within; stop = u .stop ∙ t .stop })
+
+    -- the word is made of its second part
+    pub second-told : (f : ℕ → ℕ) → ((b : ℕ) → ok′ a b → Ok (f b) × (p .parts (f b) ≡ (a, b))) → {r : Read} → ToldWord (ok′ a) (bits′ a) s d r → ToldWord Ok Bits s c (made f r)
+    second-told f g (took {w = b} u) = let (k, e) = g b (u .takes .valid) in both-took (f b) u k e
+    second-told f g (cut k) = second-cut k
+    second-told f g (bad k l) = second-bad (k, l)
+
+pub told-fits : {ok : ℕ → Type 0} {bits : ℕ → List Bool} {s : List ℕ} {c : Cursor} {r : Read} (by : ℕ) → ToldWord ok bits s c r → ((w : ℕ) → ok w → by + w ≤ 4294967295) → Fits by r
+told-fits by (took {w = w} t) h = h w (t .takes .valid)
+told-fits by (cut k) h = tt
+told-fits by (bad k l) h = tt

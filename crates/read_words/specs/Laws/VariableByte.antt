@@ -19,8 +19,8 @@ use Rattle.format.specs.Laws.Codes.{grouped-word}
 use Rattle.bits.specs.Cursor.{Within, left, to, Taken}
 use Rattle.bits.specs.declared.BitPos.{BitPos}
 use Rattle.bits.specs.declared.Cursor.{Cursor}
-use Rattle.read_words.specs.Told.{ToldWord, took, cut, bad, Among}
-use Rattle.read_words.specs.Laws.Told.{first-cut, first-bad, second-cut, second-bad, both-took}
+use Rattle.read_words.specs.Told.{ToldWord, took, cut, bad, Among, made}
+use Rattle.read_words.specs.Laws.Told.{first-cut, first-bad, second-cut, second-bad, both-took, second-told}
 use Rattle.read_words.specs.declared.Read.{Read}
 use Rattle.read_words.specs.declared.Read.the-variants.{Took, Cut, Bad}
 
@@ -51,10 +51,10 @@ module _ (most lo : ℕ) (h : most ≤ 1) (l : lo ≤ 1) where
         from = λ flag x k m. let (u, q) = unit-made flag x k m in (flag * 128 + x, u, q);
       }
 
-  pub unit-took : {s : List ℕ} {c d e : Cursor} {flag x : ℕ} → Taken (word (Among 1 0 most) (inBits 1)) s c flag d → Taken (word (Among 7 lo 127) (inBits 7)) s d x e
-      → ToldWord (FlagAndGroup most lo) (inBits 8) s c (Took (flag * 128 + x) e)
+  pub unit-told : {s : List ℕ} {c d : Cursor} {flag : ℕ} {r : Read} → Taken (word (Among 1 0 most) (inBits 1)) s c flag d → ToldWord (Among 7 lo 127) (inBits 7) s d r
+      → ToldWord (FlagAndGroup most lo) (inBits 8) s c (made (λ (x : ℕ). flag * 128 + x) r)
   unfolding unit-parts
-  unit-took {flag = flag} {x = x} t u = let (k, q) = unit-made flag x (t .takes .valid) (u .takes .valid) in both-took unit-parts t (flag * 128 + x) u k q
+  unit-told {flag = flag} t = second-told unit-parts t (λ (x : ℕ). flag * 128 + x) (λ x. unit-made flag x (t .takes .valid))
 
 -- ---- the words that begin with the groups read so far
 

@@ -88,3 +88,7 @@ at-bit s c d w e =
     let o = w .order in
     let f : d .stop .0 ≡ c .stop .0 = ap (λ (p : BitPos). p .0) e in
     omega arith
+
+-- at a bit that is known otherwise
+pub no-at : {A : Type 0} {L : Layout A} {s : List ℕ} {c : Cursor} {n : ℕ} {p q : BitPos} → Refuses L s c n p → q ≡ p → Refuses L s c n q
+no-at {L = L} {s = s} {c = c} {n = n} r e = subst (λ (x : BitPos). Refuses L s c n x) (sym e) r

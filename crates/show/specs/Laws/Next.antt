@@ -32,7 +32,7 @@ use Rattle.headings.specs.declared.Heading.{Heading}
 use Rattle.reading.specs.Refusals.{refusalNumber}
 use Rattle.read_records.specs.declared.Read.{Read}
 use Rattle.read_records.specs.declared.Read.the-variants.{Record, End, Refused}
-use Rattle.moortangle.specs.Reads.{ReadsInto}
+use Rattle.read_entries.specs.Reads.{ReadsInto}
 use Rattle.show.specs.Next as Next
 use Rattle.show.specs.Next.{onFrom, GoesOn, OtherKind}
 

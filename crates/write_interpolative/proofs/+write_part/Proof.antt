@@ -1,7 +1,7 @@
 use mathlib.Core.Path.{_≡_, ap, _∙_}
 use mathlib.Core.List.{[]}
 use Rattle.layout.specs.Laws.Bits.{length-inBits}
-use Rattle.bits.specs.Laws.Pen.{drawn-none}
+use Rattle.pen.specs.Laws.Pen.{drawn-none}
 use Rattle.write_interpolative.specs.Parts.{image}
 use Rattle.write_interpolative.specs.Laws.Parts.{image-none, halves-length, halves-drawn}
 use borrow.Author.Needs.{needs}
@@ -12,7 +12,7 @@ use borrow.Fn.PlainCycle.{Measures, is, falls, and}
 use Rattle.write_interpolative.proofs.write_part.Reads as write-part
 use Rattle.write_interpolative.proofs.write_part.Kinds as write-part-kinds
 use Rattle.write_interpolative.proofs.+write_part.Lts-write_part as write-part-lts
-use Rattle.bits.proofs.Pen.field.Reads as field-reads
+use Rattle.pen.proofs.Pen.field.Reads as field-reads
 use Rattle.write_interpolative.proofs.middle.Reads as middle-reads
 use Rattle.write_interpolative.proofs.width.Reads as width-reads
 use Rattle.write_interpolative.proofs.+write_part.{statement}

@@ -1,7 +1,7 @@
 use mathlib.Core.Path.{sym}
 use Prim.Native.Nat.{_-_}
 use lib.ListN.{length}
-use Rattle.bits.specs.Laws.Pen.{drawn-none, drawn-both}
+use Rattle.pen.specs.Laws.Pen.{drawn-none, drawn-both}
 use Rattle.write_interpolative.specs.Laws.Body.{body-none, body-length}
 use native.Mathlib.Omega.{arith}
 use borrow.Author.Needs.{needs}

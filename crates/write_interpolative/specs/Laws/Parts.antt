@@ -11,9 +11,9 @@ use Rattle.layout.specs.Layout.{Layout, bind}
 use Rattle.layout.specs.Laws.Bits.{length-inBits}
 use Rattle.format.specs.Interpolative.{width, offset, middle, part, rising}
 use Rattle.format.specs.Laws.Parts.{Node, node, part-node, part-none}
-use Rattle.bits.specs.declared.Pen.{Pen}
-use Rattle.bits.specs.Pen.{Inside, Drawn}
-use Rattle.bits.specs.Laws.Pen.{drawn-both}
+use Rattle.pen.specs.declared.Pen.{Pen}
+use Rattle.pen.specs.Pen.{Inside, Drawn}
+use Rattle.pen.specs.Laws.Pen.{drawn-both}
 use Rattle.write_interpolative.specs.Parts.{elements, image, Ready, Halves}
 
 -- ---- the rising list, cut

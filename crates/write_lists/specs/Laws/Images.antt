@@ -10,9 +10,9 @@ use Rattle.layout.specs.Layout.{word, only, chain}
 use Rattle.format.specs.Codes.{Word}
 use Rattle.format.specs.Kinds.{Kind, Corrections, Fits, ListOf, wordOf}
 use Rattle.format.specs.Records.{wordsBy}
-use Rattle.bits.specs.declared.Pen.{Pen}
-use Rattle.bits.specs.Pen.{Room, Drawn, Begun}
-use Rattle.bits.specs.Laws.Pen.{begun-none, begun-told, begun-more, begun-all}
+use Rattle.pen.specs.declared.Pen.{Pen}
+use Rattle.pen.specs.Pen.{Room, Drawn, Begun}
+use Rattle.pen.specs.Laws.Pen.{begun-none, begun-told, begun-more, begun-all}
 use Rattle.lists.specs.Laws.Judging.{At, at-rest}
 use Rattle.write_lists.specs.Images.{imagesAfter, images}
 

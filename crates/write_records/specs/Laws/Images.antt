@@ -16,9 +16,9 @@ use Rattle.format.specs.Codes.{gamma}
 use Rattle.format.specs.Kinds.{kindNumber}
 use Rattle.format.specs.Records.{codeNumber, parameterField, recordFor}
 use Rattle.bits.specs.declared.BitPos.{BitPos}
-use Rattle.bits.specs.declared.Pen.{Pen}
-use Rattle.bits.specs.Pen.{inked, Opened, Drawn}
-use Rattle.bits.specs.Laws.Pen.{drawn-both, closed}
+use Rattle.pen.specs.declared.Pen.{Pen}
+use Rattle.pen.specs.Pen.{inked, Opened, Drawn}
+use Rattle.pen.specs.Laws.Pen.{drawn-both, closed}
 use Rattle.write_records.specs.Written.{Written}
 use Rattle.format.specs.Answers.{gives}
 use Rattle.format.specs.Writing.{Puts, done}

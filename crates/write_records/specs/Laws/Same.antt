@@ -7,7 +7,7 @@ use native.Mathlib.Omega.{arith}
 use Rattle.layout.specs.Bits.{Bytes}
 use Rattle.format.specs.Writing.{Puts}
 use Rattle.format.specs.Laws.Writing.{puts-one}
-use Rattle.bits.specs.Laws.Pen.{bits-one}
+use Rattle.pen.specs.Laws.Pen.{bits-one}
 use Rattle.bits.specs.Laws.Same.{bit-same}
 use Rattle.bits.specs.declared.BitPos.{BitPos}
 use Rattle.write_records.specs.Put.{putOutcome}

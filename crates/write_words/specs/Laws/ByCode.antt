@@ -3,9 +3,9 @@ use mathlib.Core.Path.{_≡_, sym, ap, subst}
 use mathlib.Core.List.{List}
 use Prim.Native.Nat.{ℕ}
 use lib.ListN.{length}
-use Rattle.bits.specs.declared.Pen.{Pen}
-use Rattle.bits.specs.Pen.{Room, Drawn}
-use Rattle.bits.specs.Laws.Pen.{room-as, drawn-as}
+use Rattle.pen.specs.declared.Pen.{Pen}
+use Rattle.pen.specs.Pen.{Room, Drawn}
+use Rattle.pen.specs.Laws.Pen.{room-as, drawn-as}
 use Rattle.headings.specs.declared.bodies.Words.{Words}
 use Rattle.headings.specs.Bodies.{imageBy}
 

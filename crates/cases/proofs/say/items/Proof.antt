@@ -5,16 +5,16 @@ use Rattle.cases.proofs.say.items.Statement.{statement}
 use Rattle.cases.proofs.say.items.Tie as tie
 
 abbrev Inv-loop : tie.InvT-loop
-Inv-loop list form at₀ at = at ≤ length list
+Inv-loop list base at₀ at = at ≤ length list
 
 abbrev μ-loop : tie.MeasureT-loop
-μ-loop list form at₀ at = length list - at
+μ-loop list base at₀ at = length list - at
 
-byte-requires : tie.Need-byte-requires Inv-loop μ-loop
-byte-requires c κs = search needs
+slice-aggregate-text : tie.Need-slice-aggregate-text Inv-loop μ-loop
+slice-aggregate-text c = search needs
 
-byte-requires-2 : tie.Need-byte-requires-2 Inv-loop μ-loop
-byte-requires-2 c κs = search needs
+text-requires : tie.Need-text-requires Inv-loop μ-loop
+text-requires c κs = search needs
 
 loop-holds : tie.Need-loop-holds Inv-loop μ-loop
 loop-holds c = search needs
@@ -55,8 +55,8 @@ items-spec =
     (tie.spec
     Inv-loop
     μ-loop
-    byte-requires
-    byte-requires-2
+    slice-aggregate-text
+    text-requires
     loop-holds
     run-requires
     sub-together

@@ -6,10 +6,10 @@ use Rattle.cases.proofs.scan.fill.Statement.{statement}
 use Rattle.cases.proofs.scan.fill.Tie as tie
 
 abbrev Inv-loop : tie.InvT-loop
-Inv-loop list₀ from upto value i₀ list i = (from ≤ i) × (length list ≡ length list₀)
+Inv-loop list₀ from upto sign value i₀ list i = (from ≤ i) × (length list ≡ length list₀)
 
 abbrev μ-loop : tie.MeasureT-loop
-μ-loop list₀ from upto value i₀ list i = upto - i
+μ-loop list₀ from upto sign value i₀ list i = upto - i
 
 loop-holds : tie.Need-loop-holds Inv-loop μ-loop
 loop-holds c = search needs

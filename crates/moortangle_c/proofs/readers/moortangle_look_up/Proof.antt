@@ -1,6 +1,6 @@
 use Rattle.format.specs.Kinds.{Unsigned}
-use Rattle.moortangle_c.specs.Flat.{flatValue}
-use Rattle.moortangle_c.specs.Laws.Flat.{tells-between}
+use Rattle.flat_answers.specs.Flat.{flatValue}
+use Rattle.moortangle_c.specs.Laws.Tells.{tells-between}
 use Rattle.format.specs.Reading.{LooksUp}
 use Prim.Native.Nat.{ℕ}
 use borrow.Author.Needs.{needs}

@@ -1,6 +1,6 @@
 use Rattle.format.specs.Kinds.{Signed}
-use Rattle.moortangle_c.specs.Flat.{flatCorrection}
-use Rattle.moortangle_c.specs.Laws.Flat.{tells-between}
+use Rattle.flat_answers.specs.Flat.{flatCorrection}
+use Rattle.moortangle_c.specs.Laws.Tells.{tells-between}
 use Rattle.format.specs.Reading.{LooksUp}
 use Prim.Native.Nat.{ℕ}
 use borrow.Author.Needs.{needs}

@@ -3,8 +3,9 @@ use mathlib.Core.List.{map}
 use mathlib.Core.Path.{_∙_}
 use lib.IntN.{pos}
 use Rattle.format.specs.Kinds.{Unsigned}
-use Rattle.moortangle_c.specs.Flat.{flatRecord}
-use Rattle.moortangle_c.specs.Laws.Flat.{tells-between, few-values, flat-item}
+use Rattle.flat_answers.specs.Flat.{flatRecord}
+use Rattle.flat_answers.specs.Laws.Flat.{flat-item}
+use Rattle.moortangle_c.specs.Laws.Tells.{tells-between, few-values}
 use Rattle.format.specs.Reading.{Reads}
 use Rattle.format.specs.Answers.{Outcome}
 use Prim.Native.Nat.{ℕ}

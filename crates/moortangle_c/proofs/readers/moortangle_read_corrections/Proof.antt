@@ -1,7 +1,8 @@
 use mathlib.Core.Path.{_∙_}
 use Rattle.format.specs.Kinds.{Signed}
-use Rattle.moortangle_c.specs.Flat.{flatRecord}
-use Rattle.moortangle_c.specs.Laws.Flat.{tells-between, few-values, flat-item}
+use Rattle.flat_answers.specs.Flat.{flatRecord}
+use Rattle.flat_answers.specs.Laws.Flat.{flat-item}
+use Rattle.moortangle_c.specs.Laws.Tells.{tells-between, few-values}
 use Rattle.format.specs.Reading.{Item, Reads}
 use Rattle.format.specs.Answers.{Outcome}
 use Prim.Native.Nat.{ℕ}

@@ -1,5 +1,5 @@
-use Rattle.moortangle_c.specs.Flat.{flatPlace}
-use Rattle.moortangle_c.specs.Laws.Flat.{tells-between}
+use Rattle.flat_answers.specs.Flat.{flatPlace}
+use Rattle.moortangle_c.specs.Laws.Tells.{tells-between}
 use Rattle.format.specs.Reading.{Searches}
 use Prim.Native.Nat.{ℕ}
 use borrow.Author.Needs.{needs}

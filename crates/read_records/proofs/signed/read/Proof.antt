@@ -1,6 +1,7 @@
 use Rattle.format.specs.Kinds.{Corrections}
 use Rattle.read_headings.specs.Laws.Told.{was-body, was-end, was-no}
-use Rattle.read_records.specs.Laws.Reading.{read-end, read-no, read-listed, headed-for}
+use Rattle.read_bodies.specs.Laws.Bodies.{headed-for}
+use Rattle.read_records.specs.Laws.Reading.{read-end, read-no, read-listed}
 use borrow.Author.Needs.{needs}
 use Rattle.read_records.proofs.signed.read.Statement.{statement}
 use Rattle.read_records.proofs.signed.read.Tie as tie

@@ -1,12 +1,11 @@
 use lib.ListN.{length-map}
 use mathlib.Core.Path.{sym}
-use Rattle.read_records.specs.Laws.Reading.{headed-room, refused-room}
-use Rattle.read_records.specs.Laws.Reading.{for-family}
+use Rattle.read_bodies.specs.Laws.Bodies.{headed-for, for-family}
 use Rattle.headings.specs.Headings.{kindOf}
 use mathlib.Core.List.{map}
 use lib.IntN.{pos}
 use Rattle.read_headings.specs.Laws.Told.{was-body, was-end, was-no}
-use Rattle.read_records.specs.Laws.Reading.{read-end, read-no, read-listed, headed-for}
+use Rattle.read_records.specs.Laws.Reading.{read-end, read-no, read-listed, headed-room, refused-room}
 use borrow.Author.Needs.{needs}
 use Rattle.read_records.proofs.unsigned.read.Statement.{statement}
 use Rattle.read_records.proofs.unsigned.read.Tie as tie

@@ -1,16 +1,36 @@
-use mathlib.Core.Path.{_≡_, ap, _∙_, subst}
+use mathlib.Core.Path.{_≡_, sym, ap, _∙_, subst}
 use Prim.Native.Nat.{ℕ, _+_, _-_, _*_, _/_, _^_, _≤_, _<_, min}
 use Rattle.layout.specs.Bits.{inBits}
-use Rattle.layout.specs.Layout.{Stops, word}
-use Rattle.layout.specs.Dead.{Dies}
-use Rattle.bits.specs.Cursor.{left, to, Taken}
-use Rattle.read_words.specs.Told.{Upto, run, Among}
-use Rattle.read_words.specs.Laws.Told.{was-taken, was-cut, was-bad, first-cut, first-bad, second-cut, second-bad, both-took}
-use Rattle.read_words.specs.Laws.Readers.{rice-parts, rice-made, base-le, most, Left}
+use Rattle.layout.specs.Layout.{word}
+use Rattle.format.specs.Codes.{Word, rice}
+use Rattle.bits.specs.Cursor.{Taken}
+use Rattle.read_words.specs.Told.{ToldWord, Upto, run, Among, made}
+use Rattle.read_words.specs.Laws.Told.{was-taken, was-cut, was-bad, first-cut, first-bad, second-told, told-fits}
+use Rattle.read_words.specs.Laws.Readers.{rice-parts, rice-made, base-le, most}
 use native.Mathlib.Omega.{arith}
 use borrow.Author.Needs.{needs}
 use Rattle.read_words.proofs.rice.read.Statement.{statement}
 use Rattle.read_words.proofs.rice.read.Tie as tie
+
+abbrev start : tie.After-zeros → tie.Start
+start b = b .before .before .before .before
+
+abbrev power : tie.After-zeros → ℕ
+power b = b .before .before .power .result
+
+-- what is told of the zeros
+told : (b : tie.After-zeros) → let a = start b .args in ToldWord (Upto (most (a .k))) run (a .s .now) (a .c) (b .zeros .result)
+told b =
+    let a = start b .args in
+    let f = b .before .most-zeros .ensures .0 ∙ ap (λ (y : ℕ). 4294967294 / y) (b .before .before .power .ensures .0) in
+    subst (λ (y : ℕ). ToldWord (Upto y) run (a .s .now) (a .c) (b .zeros .result)) f (b .zeros .ensures)
+
+first : (f : tie.After-q) → let a = start (f .before .before) .args in Taken (word (Upto (most (a .k))) run) (a .s .now) (a .c) (f .q .given .0 .0) (f .q .given .0 .1 .0)
+first f = was-taken (told (f .before .before)) (f .q .given .1)
+
+-- what they are worth
+base : (f : tie.After-q) → f .q .given .0 .0 * power (f .before .before) ≤ 4294967294
+base f = rw (f .before .before .before .before .power .ensures .0) (base-le (start (f .before .before) .args .k) (f .q .given .0 .0) (first f .takes .valid))
 
 power-requires : tie.Need-power-requires
 power-requires c κs = search needs
@@ -31,75 +51,25 @@ cast-base-2 : tie.Need-cast-base-2
 cast-base-2 c = search needs
 
 mul-base : tie.Need-mul-base
-mul-base c =
-    let a = c .before .before .before .before .before .before .before .args in
-    let w = c .before .before .before .before .before .power in
-    let m = c .before .before .before .before .most-zeros in
-    let g = c .before .q .given in
-    let f : m .result ≡ most (a .k) = m .ensures .0 ∙ ap (λ (y : ℕ). 4294967294 / y) (w .ensures .0) in
-    let t : Taken (word (Upto (most (a .k))) run) (a .s .now) (a .c) (g .0 .0) (g .0 .1 .0) =
-    subst (λ (y : ℕ). Taken (word (Upto y) run) (a .s .now) (a .c) (g .0 .0) (g .0 .1 .0)) f (was-taken (c .before .before .before .zeros .ensures) (g .1)) in
-    let l : g .0 .0 ≤ most (a .k) = t .takes .valid in
-    let e : g .0 .0 * w .result ≤ 4294967294 = rw (w .ensures .0) (base-le (a .k) (g .0 .0) l) in
-    record { fits = omega (arith, e) }
+mul-base c = record { fits = omega (arith, base (c .before)) }
 
 most-after-requires : tie.Need-most-after-requires
-most-after-requires c κs =
-    let a = c .before .before .before .before .before .before .before .args in
-    let w = c .before .before .before .before .before .power in
-    let m = c .before .before .before .before .most-zeros in
-    let g = c .before .q .given in
-    let f : m .result ≡ most (a .k) = m .ensures .0 ∙ ap (λ (y : ℕ). 4294967294 / y) (w .ensures .0) in
-    let t : Taken (word (Upto (most (a .k))) run) (a .s .now) (a .c) (g .0 .0) (g .0 .1 .0) =
-    subst (λ (y : ℕ). Taken (word (Upto y) run) (a .s .now) (a .c) (g .0 .0) (g .0 .1 .0)) f (was-taken (c .before .before .before .zeros .ensures) (g .1)) in
-    let l : g .0 .0 ≤ most (a .k) = t .takes .valid in
-    let e : g .0 .0 * w .result ≤ 4294967294 = rw (w .ensures .0) (base-le (a .k) (g .0 .0) l) in
-    (w .ensures .1, e)
+most-after-requires c κs = (c .before .before .before .before .before .power .ensures .1, base (c .before))
 
 between-requires : tie.Need-between-requires
 between-requires c κs =
-    let a = c .before .before .before .before .before .before .before .before .args in
-    let w = c .before .before .before .before .before .before .power in
-    let m = c .before .before .before .before .before .most-zeros in
-    let g = c .before .before .q .given in
-    let f : m .result ≡ most (a .k) = m .ensures .0 ∙ ap (λ (y : ℕ). 4294967294 / y) (w .ensures .0) in
-    let t : Taken (word (Upto (most (a .k))) run) (a .s .now) (a .c) (g .0 .0) (g .0 .1 .0) =
-    subst (λ (y : ℕ). Taken (word (Upto y) run) (a .s .now) (a .c) (g .0 .0) (g .0 .1 .0)) f (was-taken (c .before .before .before .before .zeros .ensures) (g .1)) in
-    let l : g .0 .0 ≤ most (a .k) = t .takes .valid in
-    let e : g .0 .0 * w .result ≤ 4294967294 = rw (w .ensures .0) (base-le (a .k) (g .0 .0) l) in
-    (t .within, omega arith, omega arith, subst (λ (y : ℕ). c .most-after .result < y) (w .ensures .0) (c .most-after .ensures .1))
+    let f = c .before .before in
+    let b = f .before .before in
+    (first f .within, omega (arith, start b .pre .1), omega arith, subst (λ (y : ℕ). c .most-after .result < y) (b .before .before .power .ensures .0) (c .most-after .ensures .1))
 
-enum-known-r : tie.Need-enum-known-r
-enum-known-r c = search needs
+add-raised : tie.Need-add-raised
+add-raised c = record { fits = omega (arith, base (c .before .before .before)) }
 
-cast-t19 : tie.Need-cast-t19
-cast-t19 c = search needs
+cast-raised : tie.Need-cast-raised
+cast-raised c = record { fits = omega (arith, base (c .before .before .before)) }
 
-add-t20 : tie.Need-add-t20
-add-t20 c = search needs
-
-add-t21 : tie.Need-add-t21
-add-t21 c = search needs
-
-cast-t22 : tie.Need-cast-t22
-cast-t22 c =
-    let a = c .before .before .before .before .before .before .before .before .before .before .before .before .args in
-    let w = c .before .before .before .before .before .before .before .before .before .before .power in
-    let m = c .before .before .before .before .before .before .before .before .before .most-zeros in
-    let g = c .before .before .before .before .before .before .q .given in
-    let f : m .result ≡ most (a .k) = m .ensures .0 ∙ ap (λ (y : ℕ). 4294967294 / y) (w .ensures .0) in
-    let t : Taken (word (Upto (most (a .k))) run) (a .s .now) (a .c) (g .0 .0) (g .0 .1 .0) =
-    subst (λ (y : ℕ). Taken (word (Upto y) run) (a .s .now) (a .c) (g .0 .0) (g .0 .1 .0)) f (was-taken (c .before .before .before .before .before .before .before .before .zeros .ensures) (g .1)) in
-    let l : g .0 .0 ≤ most (a .k) = t .takes .valid in
-    let e : g .0 .0 * w .result ≤ 4294967294 = rw (w .ensures .0) (base-le (a .k) (g .0 .0) l) in
-    let h = c .before .before .before .before .most-after in
-    let b = c .before .before .before .between in
-    let k : h .result ≡ min (2 ^ a .k - 1) (4294967294 - g .0 .0 * 2 ^ a .k) = h .ensures .0 ∙ ap (λ (y : ℕ). min (y - 1) (4294967294 - g .0 .0 * y)) (w .ensures .0) in
-    let j = c .before .r .given in
-    let u : Taken (word (Among (a .k) 0 (h .result)) (inBits (a .k))) (a .s .now) (g .0 .1 .0) (j .0 .0) (j .0 .1 .0) = was-taken (b .ensures) (j .1) in
-    let x : j .0 .0 ≤ h .result = u .takes .valid .1 in
-    let y = h .ensures .2 in
-    record { fits = omega arith }
+raised-requires : tie.Need-raised-requires
+raised-requires c κs = told-fits _ (c .between .ensures) (λ w k. omega (arith, k .1, c .before .most-after .ensures .2))
 
 enum-told : tie.Need-enum-told
 enum-told c = search needs
@@ -107,79 +77,27 @@ enum-told c = search needs
 enum-known-t : tie.Need-enum-known-t
 enum-known-t c = search needs
 
-enum-told-2 : tie.Need-enum-told-2
-enum-told-2 c = search needs
-
-enum-known-t-2 : tie.Need-enum-known-t-2
-enum-known-t-2 c = search needs
-
 returns : tie.Need-returns
 returns c =
-    let a = c .before .before .before .before .before .before .before .before .before .before .before .before .args in
-    let w = c .before .before .before .before .before .before .before .before .before .before .power in
-    let m = c .before .before .before .before .before .before .before .before .before .most-zeros in
-    let g = c .before .before .before .before .before .before .q .given in
-    let f : m .result ≡ most (a .k) = m .ensures .0 ∙ ap (λ (y : ℕ). 4294967294 / y) (w .ensures .0) in
-    let t : Taken (word (Upto (most (a .k))) run) (a .s .now) (a .c) (g .0 .0) (g .0 .1 .0) =
-    subst (λ (y : ℕ). Taken (word (Upto y) run) (a .s .now) (a .c) (g .0 .0) (g .0 .1 .0)) f (was-taken (c .before .before .before .before .before .before .before .before .zeros .ensures) (g .1)) in
-    let l : g .0 .0 ≤ most (a .k) = t .takes .valid in
-    let e : g .0 .0 * w .result ≤ 4294967294 = rw (w .ensures .0) (base-le (a .k) (g .0 .0) l) in
-    let h = c .before .before .before .before .most-after in
-    let b = c .before .before .before .between in
-    let k : h .result ≡ min (2 ^ a .k - 1) (4294967294 - g .0 .0 * 2 ^ a .k) = h .ensures .0 ∙ ap (λ (y : ℕ). min (y - 1) (4294967294 - g .0 .0 * y)) (w .ensures .0) in
-    let j = c .before .r .given in
-    let u : Taken (word (Among (a .k) 0 (h .result)) (inBits (a .k))) (a .s .now) (g .0 .1 .0) (j .0 .0) (j .0 .1 .0) = was-taken (b .ensures) (j .1) in
-    let n : Taken (word (Left (a .k) (g .0 .0)) (inBits (a .k))) (a .s .now) (g .0 .1 .0) (j .0 .0) (j .0 .1 .0) = subst (λ (y : ℕ). Taken (word (Among (a .k) 0 y) (inBits (a .k))) (a .s .now) (g .0 .1 .0) (j .0 .0) (j .0 .1 .0)) k u in
-    let q = rice-made (a .k) (g .0 .0) (j .0 .0) l (n .takes .valid) in
-    rw (w .ensures .0) (both-took (rice-parts (a .k)) t (g .0 .0 * 2 ^ a .k + j .0 .0 + 1) n (q .0) (q .1))
+    let h = c .before .before .most-after in
+    let f = c .before .before .before .before in
+    let w = f .before .before .before .before .power in
+    let a = start (f .before .before) .args in
+    let q : ℕ = f .q .given .0 .0 in
+    let k : h .result ≡ min (2 ^ a .k - 1) (4294967294 - q * 2 ^ a .k) = h .ensures .0 ∙ ap (λ (y : ℕ). min (y - 1) (4294967294 - q * y)) (w .ensures .0) in
+    let r = c .before .between .result in
+    let b = subst (λ (y : ℕ). ToldWord (Among (a .k) 0 y) (inBits (a .k)) (a .s .now) (f .q .given .0 .1 .0) r) k (c .before .between .ensures) in
+    let e = c .raised .ensures ∙ ap (λ (y : ℕ). made (λ (x : ℕ). q * y + 1 + x) r) (w .ensures .0) in
+    subst (ToldWord Word (rice (a .k)) (a .s .now) (a .c)) (sym e)
+    (second-told (rice-parts (a .k)) (first f) (λ (x : ℕ). q * 2 ^ a .k + 1 + x) (λ x. rice-made (a .k) q x (first f .takes .valid)) b)
 
 returns-2 : tie.Need-returns-2
-returns-2 c =
-    let a = c .before .before .before .before .before .before .before .before .before .before .before .args in
-    let w = c .before .before .before .before .before .before .before .before .before .power in
-    let m = c .before .before .before .before .before .before .before .before .most-zeros in
-    let g = c .before .before .before .before .before .q .given in
-    let f : m .result ≡ most (a .k) = m .ensures .0 ∙ ap (λ (y : ℕ). 4294967294 / y) (w .ensures .0) in
-    let t : Taken (word (Upto (most (a .k))) run) (a .s .now) (a .c) (g .0 .0) (g .0 .1 .0) =
-    subst (λ (y : ℕ). Taken (word (Upto y) run) (a .s .now) (a .c) (g .0 .0) (g .0 .1 .0)) f (was-taken (c .before .before .before .before .before .before .before .zeros .ensures) (g .1)) in
-    let l : g .0 .0 ≤ most (a .k) = t .takes .valid in
-    let e : g .0 .0 * w .result ≤ 4294967294 = rw (w .ensures .0) (base-le (a .k) (g .0 .0) l) in
-    let h = c .before .before .before .most-after in
-    let b = c .before .before .between in
-    let k : h .result ≡ min (2 ^ a .k - 1) (4294967294 - g .0 .0 * 2 ^ a .k) = h .ensures .0 ∙ ap (λ (y : ℕ). min (y - 1) (4294967294 - g .0 .0 * y)) (w .ensures .0) in
-    second-cut (rice-parts (a .k)) t (subst (λ (y : ℕ). Stops (Among (a .k) 0 y) (inBits (a .k)) (left (g .0 .1 .0) (a .s .now))) k (was-cut (b .ensures) (c .enum-told .given .1)))
+returns-2 c = first-cut (rice-parts (start (c .before .before) .args .k)) (was-cut (told (c .before .before)) (c .enum-told .given .1))
 
 returns-3 : tie.Need-returns-3
 returns-3 c =
-    let a = c .before .before .before .before .before .before .before .before .before .before .before .before .args in
-    let w = c .before .before .before .before .before .before .before .before .before .before .power in
-    let m = c .before .before .before .before .before .before .before .before .before .most-zeros in
-    let g = c .before .before .before .before .before .before .q .given in
-    let f : m .result ≡ most (a .k) = m .ensures .0 ∙ ap (λ (y : ℕ). 4294967294 / y) (w .ensures .0) in
-    let t : Taken (word (Upto (most (a .k))) run) (a .s .now) (a .c) (g .0 .0) (g .0 .1 .0) =
-    subst (λ (y : ℕ). Taken (word (Upto y) run) (a .s .now) (a .c) (g .0 .0) (g .0 .1 .0)) f (was-taken (c .before .before .before .before .before .before .before .before .zeros .ensures) (g .1)) in
-    let l : g .0 .0 ≤ most (a .k) = t .takes .valid in
-    let e : g .0 .0 * w .result ≤ 4294967294 = rw (w .ensures .0) (base-le (a .k) (g .0 .0) l) in
-    let h = c .before .before .before .before .most-after in
-    let b = c .before .before .before .between in
-    let k : h .result ≡ min (2 ^ a .k - 1) (4294967294 - g .0 .0 * 2 ^ a .k) = h .ensures .0 ∙ ap (λ (y : ℕ). min (y - 1) (4294967294 - g .0 .0 * y)) (w .ensures .0) in
-    let j = c .before .t .given in
-    let d = was-bad (b .ensures) (j .1) in
-    second-bad (rice-parts (a .k)) t (subst (λ (y : ℕ). Dies (Among (a .k) 0 y) (inBits (a .k)) (left (g .0 .1 .0) (a .s .now)) (left (to (g .0 .1 .0) (j .0 .0)) (a .s .now))) k (d .0), d .1)
-
-returns-4 : tie.Need-returns-4
-returns-4 c =
-    let a = c .before .before .before .before .before .before .args in
-    let f : c .before .before .before .most-zeros .result ≡ most (a .k) = c .before .before .before .most-zeros .ensures .0 ∙ ap (λ (y : ℕ). 4294967294 / y) (c .before .before .before .before .power .ensures .0) in
-    first-cut (rice-parts (a .k)) (subst (λ (y : ℕ). Stops (Upto y) run (left (a .c) (a .s .now))) f (was-cut (c .before .before .zeros .ensures) (c .enum-told2 .given .1)))
-
-returns-5 : tie.Need-returns-5
-returns-5 c =
-    let a = c .before .before .before .before .before .before .before .args in
-    let f : c .before .before .before .before .most-zeros .result ≡ most (a .k) = c .before .before .before .before .most-zeros .ensures .0 ∙ ap (λ (y : ℕ). 4294967294 / y) (c .before .before .before .before .before .power .ensures .0) in
-    let j = c .before .t2 .given in
-    let d = was-bad (c .before .before .before .zeros .ensures) (j .1) in
-    first-bad (rice-parts (a .k)) (subst (λ (y : ℕ). Dies (Upto y) run (left (a .c) (a .s .now)) (left (to (a .c) (j .0 .0)) (a .s .now))) f (d .0), d .1)
+    let b = c .before .before .before in
+    first-bad (rice-parts (start b .args .k)) (was-bad (told b) (c .before .t .given .1))
 
 pub read-spec : {M : Type 1} → statement M
 read-spec =
@@ -194,17 +112,11 @@ read-spec =
     mul-base
     most-after-requires
     between-requires
-    enum-known-r
-    cast-t19
-    add-t20
-    add-t21
-    cast-t22
+    add-raised
+    cast-raised
+    raised-requires
     enum-told
     enum-known-t
-    enum-told-2
-    enum-known-t-2
     returns
     returns-2
-    returns-3
-    returns-4
-    returns-5)
+    returns-3)

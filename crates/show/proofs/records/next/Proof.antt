@@ -9,7 +9,7 @@ use Rattle.format.specs.Limits.{longestList}
 use Rattle.format.specs.Kinds.{Plain, Instants, Corrections, Unsigned, Signed}
 use Rattle.format.specs.Answers.{Told}
 use Rattle.lists.specs.Judged.{Unless}
-use Rattle.moortangle.specs.Reads.{ReadsInto}
+use Rattle.read_entries.specs.Reads.{ReadsInto}
 use Rattle.show.specs.Next.{OtherKind}
 use Rattle.show.specs.Laws.Next.{Ahead, settled, other, last-kind}
 use Rattle.show.proofs.records.next.Statement.{statement}

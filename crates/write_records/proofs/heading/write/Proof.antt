@@ -1,6 +1,6 @@
 use Prim.Native.Nat.{_+_}
 use Rattle.layout.specs.Laws.Bits.{length-inBits}
-use Rattle.bits.specs.Laws.Pen.{drawn-both}
+use Rattle.pen.specs.Laws.Pen.{drawn-both}
 use Rattle.write_records.specs.Laws.Images.{length-heading, heading-parts}
 use native.Mathlib.Omega.{arith}
 use borrow.Author.Needs.{needs}

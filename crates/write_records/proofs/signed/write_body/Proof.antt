@@ -1,6 +1,6 @@
 use mathlib.Core.Path.{sym}
 use Rattle.format.specs.Kinds.{Corrections}
-use Rattle.bits.specs.Laws.Pen.{room-as, drawn-as}
+use Rattle.pen.specs.Laws.Pen.{room-as, drawn-as}
 use Rattle.write_records.specs.Laws.Bodies.{small-parameter, words-image, words-list, is-corrections, not-halves}
 use Rattle.headings.specs.Laws.Bodies.{was-words, was-halves}
 use borrow.Author.Needs.{needs}

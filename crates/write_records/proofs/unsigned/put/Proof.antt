@@ -1,5 +1,5 @@
 use Rattle.format.specs.Writing.{full}
-use Rattle.bits.specs.Laws.Bytes.{all-bytes}
+use Rattle.pen.specs.Laws.Bytes.{all-bytes}
 use Rattle.write_records.specs.Laws.Images.{puts-done}
 use native.Mathlib.Omega.{arith}
 use borrow.Author.Needs.{needs}

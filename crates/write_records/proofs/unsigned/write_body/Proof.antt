@@ -3,7 +3,7 @@ use mathlib.Core.List.{map}
 use lib.IntN.{pos}
 use lib.ListN.{length-map}
 use Rattle.lists.specs.Judged.{unsignedKind}
-use Rattle.bits.specs.Laws.Pen.{room-as, drawn-as}
+use Rattle.pen.specs.Laws.Pen.{room-as, drawn-as}
 use Rattle.write_records.specs.Laws.Bodies.{small-parameter, words-image, words-list, halves-never, halves-image}
 use Rattle.headings.specs.Laws.Bodies.{was-words, was-halves}
 use native.Mathlib.Omega.{arith}

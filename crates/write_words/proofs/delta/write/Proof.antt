@@ -1,7 +1,7 @@
 use Prim.Native.Nat.{_+_, _-_}
 use Rattle.layout.specs.Laws.Bits.{length-inBits}
 use Rattle.bits.specs.Laws.Length.{size-pos, size-small}
-use Rattle.bits.specs.Laws.Pen.{drawn-as, drawn-both}
+use Rattle.pen.specs.Laws.Pen.{drawn-as, drawn-both}
 use Rattle.write_words.specs.Laws.Writes.{length-gamma, length-delta, gamma-field, gamma-holds, size-word, size-holds, delta-parts}
 use native.Mathlib.Omega.{arith}
 use borrow.Author.Needs.{needs}

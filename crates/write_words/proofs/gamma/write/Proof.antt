@@ -1,5 +1,5 @@
 use Rattle.bits.specs.Laws.Length.{size-pos}
-use Rattle.bits.specs.Laws.Pen.{drawn-as}
+use Rattle.pen.specs.Laws.Pen.{drawn-as}
 use Rattle.write_words.specs.Laws.Writes.{length-gamma, gamma-led, size-holds}
 use native.Mathlib.Omega.{arith}
 use borrow.Author.Needs.{needs}

@@ -1,7 +1,7 @@
 use Prim.Native.Nat.{_-_, _%_}
 use native.Mathlib.Nat.{mod-lt}
 use lib.Pow.{shr-le, pow-mono}
-use Rattle.bits.specs.Laws.Pen.{drawn-as}
+use Rattle.pen.specs.Laws.Pen.{drawn-as}
 use Rattle.write_words.specs.Laws.Writes.{length-rice, rice-led, rice-holds}
 use native.Mathlib.Omega.{arith}
 use borrow.Author.Needs.{needs}

@@ -2,8 +2,8 @@ use mathlib.Core.Path.{_≡_, refl, ap, _∙_}
 use Prim.Native.Nat.{ℕ, suc, _-_, _≤_}
 use lib.ListN.{length}
 use Rattle.format.specs.Codes.{groups, variableByte}
-use Rattle.bits.specs.Pen.{Begun}
-use Rattle.bits.specs.Laws.Pen.{drawn-as, begun-none, begun-told, begun-more, begun-all}
+use Rattle.pen.specs.Pen.{Begun}
+use Rattle.pen.specs.Laws.Pen.{drawn-as, begun-none, begun-told, begun-more, begun-all}
 use Rattle.write_words.specs.Laws.Writes.{length-groups, length-variable-byte, unit-first}
 use borrow.Author.Needs.{needs}
 use native.Mathlib.Omega.{arith}

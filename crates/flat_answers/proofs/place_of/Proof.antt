@@ -1,0 +1,34 @@
+use Rattle.find_in_records.specs.declared.Searched.{Searched}
+use Rattle.find_in_records.specs.Told.{searched}
+use Rattle.flat_answers.specs.Flat.{flatPlace}
+use mathlib.Core.Path.{sym, ap, ap₂, _∙_}
+use Prim.Native.Nat.{ℕ}
+use Rattle.format.specs.Answers.{refuses}
+use borrow.Author.Needs.{needs}
+use Rattle.flat_answers.proofs.place_of.Statement.{statement}
+use Rattle.flat_answers.proofs.place_of.Tie as tie
+
+enum-known-answer : tie.Need-enum-known-answer
+enum-known-answer c = search needs
+
+enum-known-answer-2 : tie.Need-enum-known-answer-2
+enum-known-answer-2 c = search needs
+
+number-requires : tie.Need-number-requires
+number-requires c κs = search needs
+
+bit-requires : tie.Need-bit-requires
+bit-requires c κs = search needs
+
+returns : tie.Need-returns
+returns c =
+    sym (ap (λ (a : Searched). flatPlace (searched a)) (c .before .answer .given .1))
+
+returns-2 : tie.Need-returns-2
+returns-2 c =
+    ap₂ (λ (n t : ℕ). flatPlace (refuses n t)) (c .before .number .ensures) (c .bit .ensures) ∙ sym (ap (λ (a : Searched). flatPlace (searched a)) (c .before .before .before .answer2 .given .1))
+
+pub place-of-spec : {M : Type 1} → statement M
+place-of-spec =
+    tie.close
+    (tie.spec enum-known-answer enum-known-answer-2 number-requires bit-requires returns returns-2)

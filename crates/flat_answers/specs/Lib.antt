@@ -1,0 +1,3 @@
+pub mod Flat
+pub mod Reads
+pub mod Laws

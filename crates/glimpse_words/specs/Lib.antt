@@ -1,0 +1,2 @@
+pub mod Glimpsed
+pub mod Laws

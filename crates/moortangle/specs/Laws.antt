@@ -1,6 +1,0 @@
--- What follows from the definitions. Nothing here has to be believed: it is proved.
-pub mod Wrote
-pub mod End
-pub mod Record
-pub mod Readers
-pub mod Unique

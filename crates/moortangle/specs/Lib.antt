@@ -1,4 +1,0 @@
-pub mod Places
-pub mod Reads
-pub mod Wrote
-pub mod Laws

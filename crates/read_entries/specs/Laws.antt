@@ -1,0 +1,3 @@
+-- What follows from the definitions. Nothing here has to be believed: it is proved.
+pub mod Readers
+pub mod Unique

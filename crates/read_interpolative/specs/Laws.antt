@@ -1,9 +1,0 @@
--- What follows from the definitions. Nothing here has to be believed: it is proved.
-pub mod Next
-pub mod Offset
-pub mod Parts
-pub mod Instants
-pub mod Sums
-pub mod Body
-pub mod Judged
-pub mod Same

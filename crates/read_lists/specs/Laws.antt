@@ -1,8 +1,0 @@
--- What follows from the definitions. Nothing here has to be believed: it is proved.
-pub mod Words
-pub mod Values
-pub mod Signs
-pub mod Told
-pub mod Reading
-pub mod Lists
-pub mod Through

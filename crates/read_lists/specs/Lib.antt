@@ -1,4 +1,0 @@
-pub mod Told
-pub mod Through
-pub mod Reading
-pub mod Laws
