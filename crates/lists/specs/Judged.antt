@@ -13,11 +13,6 @@ abbrev pub unsignedKind : Bool → Kind
 unsignedKind true = Instants
 unsignedKind false = Plain
 
--- a test that says true unless P holds
-abbrev pub Unless : Type 0 → Bool → Type 0
-Unless P true = P → ⊥
-Unless P false = P
-
 -- the list is one of its kind, or has a first faulty place: "the first place with 2 or 3 (2 first at one place)"
 pub data ToldList (t : Kind) (values : List ℤ) : Judged → Type 0 where
   fine : ListOf t (pos 0) values → ToldList t values Fine

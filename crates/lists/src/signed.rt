@@ -3,7 +3,8 @@ ghost use mathlib.Core.Path.{_≡_};
 ghost use lib.IntN.{pos};
 ghost use Rattle.format.specs.Codes.{Word};
 ghost use Rattle.format.specs.Kinds.{Corrections, InRange, wordOf};
-ghost use Rattle.lists.specs.Judged.{Unless, ToldList};
+ghost use Rattle.lists.specs.Tests.{Unless};
+ghost use Rattle.lists.specs.Judged.{ToldList};
 use crate::Judged;
 
 // The word that stands for a correction. The value before it does not matter.

@@ -4,7 +4,8 @@ ghost use mathlib.Core.List.{map};
 ghost use lib.IntN.{pos};
 ghost use Rattle.format.specs.Codes.{Word};
 ghost use Rattle.format.specs.Kinds.{InRange, NotBelow, Fits, wordOf};
-ghost use Rattle.lists.specs.Judged.{unsignedKind, Unless, ToldList};
+ghost use Rattle.lists.specs.Tests.{Unless};
+ghost use Rattle.lists.specs.Judged.{unsignedKind, ToldList};
 use crate::Judged;
 
 // The word that stands for a value after the one before; the first has 0 before it.

@@ -5,7 +5,7 @@ ghost use Rattle.format.specs.Limits.{longestList};
 ghost use Rattle.format.specs.Kinds.{Unsigned, Signed};
 ghost use Rattle.format.specs.Reading.{Padding, Check};
 ghost use Rattle.bits.specs.Cursor.{Within, left};
-ghost use Rattle.lists.specs.Judged.{Unless};
+ghost use Rattle.lists.specs.Tests.{Unless};
 ghost use Rattle.read_headings.specs.Told.{bodyOf};
 ghost use Rattle.read_bodies.specs.Bodies.{HeadingOk, HeadingFor};
 ghost use Rattle.read_streams.specs.Told.{ToldPassed, checked};

@@ -5,7 +5,7 @@ ghost use Prim.Native.Nat.{_≤_, _<_};
 ghost use lib.IntN.{pos};
 ghost use lib.ListN.{length};
 ghost use Rattle.format.specs.Limits.{longestList};
-ghost use Rattle.lists.specs.Judged.{Unless};
+ghost use Rattle.lists.specs.Tests.{Unless};
 ghost use Rattle.show.specs.Next.{GoesOn, OtherKind, listFor, Next};
 use crate::output;
 use bits::BitPos;

@@ -1,3 +1,2 @@
 -- What follows from the definitions. Nothing here has to be believed: it is proved.
 pub mod Wanted
-pub mod Same

@@ -1,6 +1,5 @@
 -- What a reader asks for, and what a code asks of a kind.
 use mathlib.Core.Path.{_≡_}
-use mathlib.Core.Bool.{Bool, true, false}
 use Rattle.format.specs.Kinds as Kinds
 use Rattle.format.specs.Records as Records
 use Rattle.headings.specs.Headings.{kindOf}
@@ -15,8 +14,3 @@ wantedOf (This t) = Records.This (kindOf t)
 -- a code and a kind that go together: not "code 5 without kind 1"
 abbrev pub Goes : Records.Code → Kinds.Kind → Type 0
 Goes x t = x ≡ Records.Interpolative → t ≡ Kinds.Instants
-
--- a test that says true unless P holds
-pub data Unless (P : Type 0) : Bool → Type 0 where
-  holds : P → Unless P false
-  fails : (P → ⊥) → Unless P true

@@ -1,7 +1,8 @@
 // Which kinds a reader takes: the one that it asks for, and with the interpolative code instants alone.
 ghost use Rattle.format.specs.Records.{Wants};
 ghost use Rattle.headings.specs.Headings.{codeOf, kindOf};
-ghost use Rattle.wanted.specs.Wanted.{wantedOf, Goes, Unless};
+ghost use Rattle.lists.specs.Tests.{Unless};
+ghost use Rattle.wanted.specs.Wanted.{wantedOf, Goes};
 use headings::Code;
 use headings::Kind;
 

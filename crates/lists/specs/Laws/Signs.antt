@@ -11,7 +11,7 @@ use mir.Val.{SFits, toZ, ofZ}
 use mir.Facts.{toZ-ofZ}
 use Rattle.format.specs.Limits.{largestCorrection}
 use Rattle.format.specs.Kinds.{Corrections, InRange, wordOf}
-use Rattle.lists.specs.Judged.{Unless}
+use Rattle.lists.specs.Tests.{Unless}
 use Rattle.lists.specs.Laws.Tests.{unless-below}
 
 -- the size of a correction, which its negation has too

@@ -30,8 +30,9 @@ use Rattle.headings.specs.declared.CodeChoice.the-variants as OfCodeChoice
 use Rattle.headings.specs.declared.Kind.{Kind}
 use Rattle.headings.specs.declared.KindChoice.{KindChoice}
 use Rattle.headings.specs.declared.KindChoice.the-variants as OfKindChoice
-use Rattle.wanted.specs.Wanted.{Goes, Unless}
-use Rattle.wanted.specs.Laws.Wanted.{holds-if, fails-if}
+use Rattle.lists.specs.Tests.{Unless}
+use Rattle.lists.specs.Laws.Tests.{holds-if, fails-if}
+use Rattle.wanted.specs.Wanted.{Goes}
 use Rattle.reading.specs.Laws.Steps.{taken-only, no-field, no-value, taken-known}
 use Rattle.reading.specs.declared.Refusal.the-variants.{CutShort, Unknown}
 use Rattle.read_headings.specs.Told.{Ended}

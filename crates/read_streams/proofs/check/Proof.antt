@@ -1,4 +1,4 @@
-use Rattle.read_streams.specs.Laws.Streams.{was-unclean, was-clean}
+use Rattle.lists.specs.Laws.Tests.{holds-if, fails-if}
 use Rattle.read_streams.specs.Laws.Streams.{was-after, was-not-passed}
 use Rattle.read_headings.specs.Laws.Same.{headed-no-end}
 use Prim.Native.Nat.{_+_, _-_, _<_}
@@ -85,11 +85,11 @@ at-requires c κs = search needs
 
 returns-2 : tie.Need-returns-2 Inv-loop μ-loop
 returns-2 c =
-    stream-unclean (c .before .before .before .before .before .before .before .loop .inv) (was-end (c .before .before .before .before .before .before .read .ensures) (c .before .before .before .before .d .given .1)) (was-unclean (c .before .before .unclean .ensures) (c .before .if1 .taken)) (c .at .ensures)
+    stream-unclean (c .before .before .before .before .before .before .before .loop .inv) (was-end (c .before .before .before .before .before .before .read .ensures) (c .before .before .before .before .d .given .1)) (fails-if (c .before .before .unclean .ensures) (c .before .if1 .taken)) (c .at .ensures)
 
 returns-3 : tie.Need-returns-3 Inv-loop μ-loop
 returns-3 c =
-    stream-ends (c .before .before .before .before .before .before .loop .inv) (was-end (c .before .before .before .before .before .read .ensures) (c .before .before .before .d .given .1)) (was-clean (c .before .unclean .ensures) (c .if1 .left))
+    stream-ends (c .before .before .before .before .before .before .loop .inv) (was-end (c .before .before .before .before .before .read .ensures) (c .before .before .before .d .given .1)) (holds-if (c .before .unclean .ensures) (c .if1 .left))
 
 enum-known-m-2 : tie.Need-enum-known-m-2 Inv-loop μ-loop
 enum-known-m-2 c = search needs

@@ -24,7 +24,6 @@ use Rattle.bits.specs.declared.Cursor.{Cursor}
 use Rattle.headings.specs.declared.Heading.{Heading}
 use Rattle.reading.specs.Laws.Steps.{told-at, at-bit}
 use Rattle.read_headings.specs.Told.{bodyOf, Headed, Ended}
-use Rattle.lists.specs.Judged.{Unless}
 use Rattle.reading.specs.Refusals.{refusalNumber}
 use Rattle.reading.specs.declared.Refusal.{Refusal}
 use Rattle.read_bodies.specs.Laws.Bodies.{counted-values}
@@ -97,12 +96,6 @@ module _ (s : List ℕ) (c : Cursor) (w : Within c (length s)) where
     padding-one h p =
         let k = length (left c s) in
         h (left-val ∙ ap val (p .1 ∙ sym (inBits-zero k)) ∙ val-inBits k 0 ∙ mod-eq-of-lt (pow-pos k))
-
-pub was-unclean : {P : Type 0} {b : Bool} → Unless P b → b ≡ true → P → ⊥
-was-unclean {P} u e = subst (Unless P) e u
-
-pub was-clean : {P : Type 0} {b : Bool} → Unless P b → b ≡ false → P
-was-clean {P} u e = subst (Unless P) e u
 
 -- ---- a body that was passed
 

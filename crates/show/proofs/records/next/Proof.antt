@@ -1,4 +1,4 @@
-use mathlib.Core.Path.{_≡_, refl, subst}
+use mathlib.Core.Path.{_≡_, refl}
 use mathlib.Core.List.{map}
 use Prim.Native.Nat.{_*_, _≤_}
 use lib.IntN.{pos}
@@ -8,7 +8,7 @@ use borrow.Author.Needs.{needs}
 use Rattle.format.specs.Limits.{longestList}
 use Rattle.format.specs.Kinds.{Plain, Instants, Corrections, Unsigned, Signed}
 use Rattle.format.specs.Answers.{Told}
-use Rattle.lists.specs.Judged.{Unless}
+use Rattle.lists.specs.Laws.Tests.{holds-if, fails-if}
 use Rattle.read_entries.specs.Reads.{ReadsInto}
 use Rattle.show.specs.Next.{OtherKind}
 use Rattle.show.specs.Laws.Next.{Ahead, settled, other, last-kind}
@@ -48,13 +48,13 @@ not-plain : (e : tie.Else1) → let s = e .before .before .before .before .befor
     (a : Ahead (s .s .now) (s .at .0)) × (a .entry .kind ≡ Plain → ⊥)
 not-plain e =
     let r = e .before .before .before .before in
-    other (r .before .before .before .before .before .pre .0) plain (room r) (r .read .result) (first r) (subst (Unless (OtherKind (r .read .result))) (e .if1 .left) (e .before .is-settled .ensures))
+    other (r .before .before .before .before .before .pre .0) plain (room r) (r .read .result) (first r) (holds-if {P = OtherKind (r .read .result)} (e .before .is-settled .ensures) (e .if1 .left))
 
 not-instants : (e : tie.Else2) → let s = e .before .before .before .before .before .before .before .before .before .before .before .before .before .before .before .args in
     (a : Ahead (s .s .now) (s .at .0)) × (a .entry .kind ≡ Instants → ⊥)
 not-instants e =
     let r = e .before .before .before .before in
-    other (r .before .before .before .before .before .before .before .before .before .before .before .pre .0) instants (room-2 r) (r .read2 .result) (second r) (subst (Unless (OtherKind (r .read2 .result))) (e .if2 .left) (e .before .is-settled2 .ensures))
+    other (r .before .before .before .before .before .before .before .before .before .before .before .pre .0) instants (room-2 r) (r .read2 .result) (second r) (holds-if {P = OtherKind (r .read2 .result)} (e .before .is-settled2 .ensures) (e .if2 .left))
 
 -- ---- what is left by the borrow checker
 
@@ -76,7 +76,7 @@ same-length c = search needs
 returns : tie.Need-returns
 returns c =
     let r = c .before .before .before .before in
-    settled (r .before .before .before .before .before .pre .0) plain (room r) _ refl (r .read .result) (first r) (subst (Unless (OtherKind (r .read .result))) (c .if1 .taken) (c .before .is-settled .ensures))
+    settled (r .before .before .before .before .before .pre .0) plain (room r) _ refl (r .read .result) (first r) (fails-if {P = OtherKind (r .read .result)} (c .before .is-settled .ensures) (c .if1 .taken))
 
 read-requires-2 : tie.Need-read-requires-2
 read-requires-2 c κs = search needs
@@ -90,7 +90,7 @@ same-length-2 c = search needs
 returns-2 : tie.Need-returns-2
 returns-2 c =
     let r = c .before .before .before .before in
-    settled (r .before .before .before .before .before .before .before .before .before .before .before .pre .0) instants (room-2 r) _ refl (r .read2 .result) (second r) (subst (Unless (OtherKind (r .read2 .result))) (c .if2 .taken) (c .before .is-settled2 .ensures))
+    settled (r .before .before .before .before .before .before .before .before .before .before .before .pre .0) instants (room-2 r) _ refl (r .read2 .result) (second r) (fails-if {P = OtherKind (r .read2 .result)} (c .before .is-settled2 .ensures) (c .if2 .taken))
 
 read-corrections-requires : tie.Need-read-corrections-requires
 read-corrections-requires c κs = search needs
