@@ -1,7 +1,9 @@
 -- Calls of the entries, one after the other, as a caller makes them.
 use mathlib.Core.Path.{_≡_}
+use mathlib.Core.Bool.{true, false}
 use mathlib.Core.List.{List, [], _∷_, _++_}
-use Prim.Native.Nat.{ℕ, _+_, _≤_}
+use Prim.Native.Nat.{ℕ, zero, suc, _+_, _≤_}
+use lib.Dec.{ltb}
 use lib.IntN.{ℤ}
 use lib.ListN.{length, drop}
 use Rattle.format.specs.Kinds.{Kind, Family}
@@ -9,7 +11,7 @@ use Rattle.format.specs.Records.{Rice, codeNumber, Record}
 use Rattle.format.specs.Answers.{gives, Told}
 use Rattle.format.specs.Reading.{listed}
 use Rattle.format.specs.Writing.{Writes}
-use Rattle.format.specs.Laws.Round.{Holds}
+use Rattle.format.specs.Restated.{Holds}
 use Rattle.bits.specs.declared.BitPos.{BitPos}
 use Rattle.read_records.specs.Told.{itemOf}
 use Rattle.read_records.specs.declared.Read.{Read}
@@ -40,11 +42,19 @@ pub record SameRecord (q r : Call) : Type 0 where
   pub parameter : q .code ≡ codeNumber Rice → q .parameter ≡ r .parameter
   pub values : q .values ≡ r .values
 
--- "the records of the first are the first records of the second"
+-- "the records of the first are the first records of the second", one by one
 abbrev pub FirstOf : List Call → List Call → Type 0
 FirstOf [] rs = Unit {0}
 FirstOf (q ∷ qs) [] = ⊥
 FirstOf (q ∷ qs) (r ∷ rs) = SameRecord q r × FirstOf qs rs
+
+-- the second sequence is the first one's records, as many as these are, and more or none
+pub record BeginsWith (qs ss : List Call) : Type 0 where
+  pub first : List Call
+  pub more : List Call
+  pub whole : ss ≡ first ++ more
+  pub as-many : length first ≡ length qs
+  pub same : FirstOf qs first
 
 -- how many values were written
 abbrev pub valuesOf : List Call → ℕ
@@ -67,3 +77,8 @@ ReadInTurn bytes stop (q ∷ qs) at =
     (p : ℕ)
     × ((old new : List ℤ) (r : Read) → length (q .values) ≤ length old → ReadsInto bytes at stop (q .family) (q .kind) old r new → Back (q .code) (q .parameter) (q .kind) (q .values) old p r new)
     × ReadInTurn bytes stop qs p
+
+-- of the first n places, how many have a number below the one sought
+abbrev pub placesBelow : ℕ → (ℕ → ℕ) → ℕ → ℕ
+placesBelow sought look zero = 0
+placesBelow sought look (suc n) = placesBelow sought look n + elim (ltb (look n) sought) [ true ↦ 1 | false ↦ 0 ]

@@ -22,6 +22,7 @@ use Rattle.headings.specs.Headings.{headed}
 use Rattle.headings.specs.declared.Heading.{Heading}
 use Rattle.read_records.specs.declared.Read.the-variants as OfRead
 use Rattle.read_entries.specs.Reads.{ReadsInto}
+use Rattle.demands.specs.Calls.{placesBelow}
 
 -- ---- of a record that `read` gives
 
@@ -47,11 +48,6 @@ search-as-listed {bytes} {start} {stop} {old} {new} {h} {n} {p} r sought x l =
     searches-one bytes start stop sought x (gives (below sought (take n new))) l (searches-listed bytes start stop old (headed h (take n new)) (p .0) new (r .reads) sought)
 
 -- ---- search by look-up: it tells the number of places whose look-up is smaller
-
--- of the first n places, how many have a number below the one sought
-abbrev pub placesBelow : ℕ → (ℕ → ℕ) → ℕ → ℕ
-placesBelow sought look zero = 0
-placesBelow sought look (suc n) = placesBelow sought look n + elim (ltb (look n) sought) [ true ↦ 1 | false ↦ 0 ]
 
 -- one value more at the end of a list
 below-snoc : (sought : ℕ) (vs : List ℤ) (n : ℕ) → n < length vs → below sought (take (suc n) vs) ≡ below sought (take n vs) + elim (ltb (natural (getD vs n (pos 0))) sought) [ true ↦ 1 | false ↦ 0 ]

@@ -2,7 +2,7 @@
 use mathlib.Core.Path.{_≡_, refl, sym, ap, _∙_, subst}
 use mathlib.Core.Bool.{Bool}
 use mathlib.Core.List.{List, [], _∷_, _++_}
-use Prim.Native.Nat.{ℕ, _+_, _-_, _*_, _≤_}
+use Prim.Native.Nat.{ℕ, suc, _+_, _-_, _*_, _≤_}
 use native.Mathlib.Nat.{le-refl}
 use native.Mathlib.Omega.{arith}
 use lib.ListN.{length, take, drop, length-append}
@@ -14,11 +14,12 @@ use Rattle.layout.specs.Laws.Windows.{put-nil, put-both, put-window}
 use Rattle.format.specs.Records.{Rice, Record, Valid, anyRecord}
 use Rattle.format.specs.Answers.{gives, Told}
 use Rattle.format.specs.Writing.{Writes}
+use Rattle.format.specs.Restated.{Holds, WrittenBits}
 use Rattle.format.specs.Laws.Records.{code-one}
 use Rattle.format.specs.Laws.Outcomes.{reads-accepted}
-use Rattle.format.specs.Laws.Round.{Holds, WrittenBits, written-bits, reads-back}
+use Rattle.format.specs.Laws.Round.{written-bits, reads-back}
 use Rattle.format.specs.Laws.Demand3.{first-records}
-use Rattle.demands.specs.Calls.{Call, WrittenInTurn, none, then, SameRecord, FirstOf}
+use Rattle.demands.specs.Calls.{Call, WrittenInTurn, none, then, SameRecord, FirstOf, BeginsWith}
 
 -- ---- the records that calls ask for, and the bits that they leave
 
@@ -121,13 +122,20 @@ first-of (q ∷ qs) ss [] more a b = absurd a
 first-of (q ∷ qs) [] (r ∷ rs) more a b = absurd b
 first-of (q ∷ qs) (s ∷ ss) (r ∷ rs) more a b = (same-record (a .0) (b .0), first-of qs ss rs more (a .1) (b .1))
 
+begins-with : (qs ss : List Call) → FirstOf qs ss → BeginsWith qs ss
+begins-with [] ss f = record { first = []; more = ss; whole = refl; as-many = refl; same = tt }
+begins-with (q ∷ qs) [] f = absurd f
+begins-with (q ∷ qs) (s ∷ ss) f =
+    let b = begins-with qs ss (f .1) in
+    record { first = s ∷ b .first; more = b .more; whole = ap (λ (l : List Call). s ∷ l) (b .whole); as-many = ap suc (b .as-many); same = (f .0, b .same) }
+
 -- "If the bits of the first sequence are the beginning of the bits of the second, then the records of the first are the first records of
 -- the second, in code, kind, parameter, number, order and every value."
 pub written-first : {qs ss : List Call} {bytes bytes′ after after′ : List ℕ} {start start′ next next′ : ℕ} → WrittenInTurn qs bytes start after next → WrittenInTurn ss bytes′ start′ after′ next′
-    → (x : List Bool) → window after′ start′ next′ ≡ window after start next ++ x → FirstOf qs ss
+    → (x : List Bool) → window after′ start′ next′ ≡ window after start next ++ x → BeginsWith qs ss
 written-first {qs} {ss} v w x e =
     let a = in-a-row v in
     let b = in-a-row w in
     let f : row anyRecord (b .rs) ≡ row anyRecord (a .rs) ++ x = sym (row-stands w b) ∙ e ∙ ap (λ (l : List Bool). l ++ x) (row-stands v a) in
     let (more, g) = first-records (a .rs) (b .rs) x (all-valid qs (a .rs) (a .asked)) (all-valid ss (b .rs) (b .asked)) f in
-    first-of qs ss (a .rs) more (a .asked) (subst (AskInTurn ss) g (b .asked))
+    begins-with qs ss (first-of qs ss (a .rs) more (a .asked) (subst (AskInTurn ss) g (b .asked)))

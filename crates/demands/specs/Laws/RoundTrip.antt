@@ -15,9 +15,10 @@ use Rattle.format.specs.Records.{Record, codeNumber, anyRecord}
 use Rattle.format.specs.Answers.{gives}
 use Rattle.format.specs.Reading.{listed}
 use Rattle.format.specs.Writing.{Writes}
+use Rattle.format.specs.Restated.{Holds, WrittenBits, Accepted}
 use Rattle.format.specs.Laws.Reading.{reads-one}
-use Rattle.format.specs.Laws.Outcomes.{Accepted, reads-accepted}
-use Rattle.format.specs.Laws.Round.{Holds, WrittenBits, written-bits, reads-back}
+use Rattle.format.specs.Laws.Outcomes.{reads-accepted}
+use Rattle.format.specs.Laws.Round.{written-bits, reads-back}
 use Rattle.bits.specs.declared.BitPos.{BitPos}
 use Rattle.headings.specs.Headings.{codeOf, carried, headed}
 use Rattle.headings.specs.declared.Heading.{Heading}

@@ -1,12 +1,12 @@
 -- What an entry's contract comes to at the boundary, and that it leaves an exported function no choice.
 use mathlib.Core.Path.{_≡_, sym, ap, _∙_, subst, subst₂}
-use mathlib.Core.List.{List}
+use mathlib.Core.List.{List, map}
 use Prim.Native.Nat.{ℕ}
 use native.Mathlib.Omega.{arith}
-use lib.IntN.{ℤ}
+use lib.IntN.{ℤ, pos}
 use lib.ListN.{take}
 use lib.Seq.{length-take-le}
-use Rattle.format.specs.Kinds.{Family}
+use Rattle.format.specs.Kinds.{Family, Unsigned, Signed}
 use Rattle.format.specs.Answers.{Outcome}
 use Rattle.format.specs.Reading.{Reads, LooksUp, Searches, Checks}
 use Rattle.format.specs.Writing.{Writes, WritesEnd}
@@ -14,6 +14,7 @@ use Rattle.format.specs.Laws.Reading.{reads-one, looks-up-one, searches-one, ch
 use Rattle.format.specs.Laws.Writing.{writes-one, writes-end-one}
 use Rattle.format.specs.Laws.Outcomes.{reads-accepted}
 use Rattle.headings.specs.Headings.{headed}
+use Rattle.reading.specs.Laws.Naturals.{naturals-one}
 use Rattle.read_records.specs.declared.Read.{Read}
 use Rattle.read_records.specs.declared.Read.the-variants as OfRead
 use Rattle.read_entries.specs.Reads.{ReadsInto}
@@ -67,9 +68,15 @@ module _ (bytes : List ℕ) (start : ℕ) (r s : Written) (after after′ : List
   write-end-tells-one = tells-one flatWritten (WritesEnd bytes start) (writes-end-one bytes start) r s after after′
 
 module _ (bytes : List ℕ) (start stop : ℕ) where
-  pub read-tells-one : (f : Family) (kind : ℕ) (old new new′ : List ℤ) (r s : Record)
-      → Tells flatRecord (λ x. Reads bytes start stop f kind old x new) r → Tells flatRecord (λ x. Reads bytes start stop f kind old x new′) s → (r ≡ s) × (new ≡ new′)
-  read-tells-one f kind old new new′ r s = tells-one flatRecord (Reads bytes start stop f kind old) (reads-one bytes start stop f kind old) r s new new′
+  pub read-corrections-tells-one : (kind : ℕ) (old new new′ : List ℤ) (r s : Record)
+      → Tells flatRecord (λ x. Reads bytes start stop Signed kind old x new) r → Tells flatRecord (λ x. Reads bytes start stop Signed kind old x new′) s → (r ≡ s) × (new ≡ new′)
+  read-corrections-tells-one kind old new new′ r s = tells-one flatRecord (Reads bytes start stop Signed kind old) (reads-one bytes start stop Signed kind old) r s new new′
+
+  pub read-tells-one : (kind : ℕ) (old new new′ : List ℕ) (r s : Record)
+      → Tells flatRecord (λ x. Reads bytes start stop Unsigned kind (map pos old) x (map pos new)) r → Tells flatRecord (λ x. Reads bytes start stop Unsigned kind (map pos old) x (map pos new′)) s → (r ≡ s) × (new ≡ new′)
+  read-tells-one kind old new new′ r s x y =
+      let (e, g) = tells-one flatRecord (Reads bytes start stop Unsigned kind (map pos old)) (reads-one bytes start stop Unsigned kind (map pos old)) r s (map pos new) (map pos new′) x y in
+      (e, naturals-one new new′ g)
 
   pub look-up-tells-one : (f : Family) (kind place : ℕ) (r s : Value) → Tells flatValue (LooksUp bytes start stop f kind place) r → Tells flatValue (LooksUp bytes start stop f kind place) s → r ≡ s
   look-up-tells-one f kind place = answer-one flatValue (LooksUp bytes start stop f kind place) (looks-up-one bytes start stop f kind place)

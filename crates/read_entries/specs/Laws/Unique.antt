@@ -1,11 +1,12 @@
 -- Two answers that satisfy a reading entry's contract are equal, and so is all lent memory.
 use mathlib.Core.Path.{_≡_}
-use mathlib.Core.List.{List}
+use mathlib.Core.List.{List, map}
 use Prim.Native.Nat.{ℕ}
-use lib.IntN.{ℤ}
-use Rattle.format.specs.Kinds.{Family}
+use lib.IntN.{ℤ, pos}
+use Rattle.format.specs.Kinds.{Family, Unsigned, Signed}
 use Rattle.format.specs.Reading.{LooksUp, Searches, Checks}
 use Rattle.format.specs.Laws.Reading.{reads-one, looks-up-one, searches-one, checks-one}
+use Rattle.reading.specs.Laws.Naturals.{naturals-one}
 use Rattle.read_records.specs.Told.{itemOf}
 use Rattle.find_in_records.specs.Told.{lookedUp, lookedUpCorrection, searched}
 use Rattle.read_records.specs.Laws.Answers.{item-same}
@@ -20,10 +21,20 @@ use Rattle.read_streams.specs.declared.Checked.{Checked}
 use Rattle.read_entries.specs.Reads.{ReadsInto}
 
 module _ (bytes : List ℕ) (start stop : ℕ) where
-  pub read-one : (f : Family) (kind : ℕ) (old : List ℤ) (a b : Read) (new new′ : List ℤ) → ReadsInto bytes start stop f kind old a new → ReadsInto bytes start stop f kind old b new′ → (a ≡ b) × (new ≡ new′)
-  read-one f kind old a b new new′ x y =
+  pub read-into-one : (f : Family) (kind : ℕ) (old : List ℤ) (a b : Read) (new new′ : List ℤ) → ReadsInto bytes start stop f kind old a new → ReadsInto bytes start stop f kind old b new′ → (a ≡ b) × (new ≡ new′)
+  read-into-one f kind old a b new new′ x y =
       let (e, g) = reads-one bytes start stop f kind old (itemOf a new) (itemOf b new′) new new′ (x .reads) (y .reads) in
       (item-same a b new new′ (x .counted) (y .counted) e, g)
+
+  -- of the lent list itself, in either family
+  pub read-one : (kind : ℕ) (old : List ℕ) (a b : Read) (new new′ : List ℕ)
+      → ReadsInto bytes start stop Unsigned kind (map pos old) a (map pos new) → ReadsInto bytes start stop Unsigned kind (map pos old) b (map pos new′) → (a ≡ b) × (new ≡ new′)
+  read-one kind old a b new new′ x y =
+      let (e, g) = read-into-one Unsigned kind (map pos old) a b (map pos new) (map pos new′) x y in
+      (e, naturals-one new new′ g)
+
+  pub read-corrections-one : (kind : ℕ) (old : List ℤ) (a b : Read) (new new′ : List ℤ) → ReadsInto bytes start stop Signed kind old a new → ReadsInto bytes start stop Signed kind old b new′ → (a ≡ b) × (new ≡ new′)
+  read-corrections-one = read-into-one Signed
 
   pub look-up-one : (f : Family) (kind place : ℕ) (a b : LookedUp) → LooksUp bytes start stop f kind place (lookedUp a) → LooksUp bytes start stop f kind place (lookedUp b) → a ≡ b
   look-up-one f kind place a b x y = looked-up-same a b (looks-up-one bytes start stop f kind place (lookedUp a) (lookedUp b) x y)

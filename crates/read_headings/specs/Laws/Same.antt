@@ -5,7 +5,8 @@ use mathlib.Core.List.{List, append-assoc}
 use Prim.Native.Nat.{ℕ}
 use lib.ListN.{length}
 use Rattle.layout.specs.Layout.{Takes}
-use Rattle.layout.specs.Laws.Sound.{Sound, fixed-sound, known-sound, bind-sound, only-sound}
+use Rattle.layout.specs.Sound.{Sound}
+use Rattle.layout.specs.Laws.Sound.{fixed-sound, known-sound, bind-sound, only-sound}
 use Rattle.format.specs.Kinds as Kinds
 use Rattle.format.specs.Records as Records
 use Rattle.format.specs.Records.{Asked, codeField}

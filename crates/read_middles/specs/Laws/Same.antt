@@ -6,7 +6,7 @@ use Prim.Native.Nat.{ℕ, _+_, _-_, _/_, _<_}
 use native.Mathlib.Omega.{arith}
 use lib.ListN.{length}
 use Rattle.layout.specs.Layout.{Layout}
-use Rattle.layout.specs.Laws.Sound.{Sound}
+use Rattle.layout.specs.Sound.{Sound}
 use Rattle.format.specs.Interpolative.{offset}
 use Rattle.format.specs.Laws.Parts.{offset-sound}
 use Rattle.bits.specs.Cursor.{Within, left, to}

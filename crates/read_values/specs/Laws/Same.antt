@@ -5,7 +5,7 @@ use mathlib.Core.List.{List}
 use Prim.Native.Nat.{ℕ}
 use lib.IntN.{ℤ, pos}
 use lib.ListN.{length}
-use Rattle.layout.specs.Laws.Sound.{Sound}
+use Rattle.layout.specs.Sound.{Sound}
 use Rattle.format.specs.Kinds.{Kind, Corrections}
 use Rattle.bits.specs.Cursor.{Within}
 use Rattle.bits.specs.declared.Cursor.{Cursor}

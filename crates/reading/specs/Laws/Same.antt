@@ -6,7 +6,7 @@ use native.Mathlib.Omega.{arith}
 use lib.IntN.{ℤ, pos}
 use lib.ListN.{length, getD, drop}
 use Rattle.layout.specs.Layout.{Layout}
-use Rattle.layout.specs.Laws.Sound.{Sound}
+use Rattle.layout.specs.Sound.{Sound}
 use Rattle.format.specs.Reading.{below}
 use Rattle.bits.specs.Cursor.{Within, left, to, Refuses}
 use Rattle.bits.specs.Laws.Same.{bit-same}

@@ -7,7 +7,8 @@ use native.Mathlib.Omega.{arith}
 use lib.ListN.{length}
 use Rattle.layout.specs.Bits.{window}
 use Rattle.layout.specs.Layout.{Layout, known, BindNo, first, second, bind, field, value, only, made}
-use Rattle.layout.specs.Laws.Sound.{Sound, takes-one}
+use Rattle.layout.specs.Sound.{Sound}
+use Rattle.layout.specs.Laws.Sound.{takes-one}
 use Rattle.format.specs.Answers.{toldBit}
 use Rattle.bits.specs.Cursor.{Within, left, to, Taken, Refuses}
 use Rattle.bits.specs.Laws.Cursor.{length-left}
