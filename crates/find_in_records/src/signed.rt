@@ -8,6 +8,7 @@ use crate::LookedUpCorrection;
 use bits::BitPos;
 use bits::Cursor;
 use headings::Kind;
+use limits::LONGEST_LIST;
 use read_headings::Begun;
 use reading::JudgedCorrections;
 use reading::Refusal;
@@ -17,7 +18,7 @@ pub fn look_up(c: Cursor, s: &[u8], place: usize) -> LookedUpCorrection
     requires { ⌜ Within c (length (now s)) ⌝ }
     ensures { λ r. ⌜ LookUp place (askedFor Corrections) (c .stop .0) (left c (now (s .entry))) (lookedUpCorrection r) ⌝ }
 {
-    match read_headings::read(c, s, Wanted::This(Kind::Corrections), 4096) {
+    match read_headings::read(c, s, Wanted::This(Kind::Corrections), LONGEST_LIST) {
         Begun::Body(h, n, d) => match read_bodies::signed::judge(d, s, h, n, place) {
             JudgedCorrections::Whole(v, _) => {
                 if place < n {

@@ -13,6 +13,7 @@ use crate::Seen;
 use bits::BitPos;
 use bits::Cursor;
 use headings::Kind;
+use limits::LONGEST_LIST;
 use read_headings::Begun;
 use reading::Judged;
 use reading::Refusal;
@@ -22,7 +23,7 @@ fn see(c: Cursor, s: &[u8], kind: Kind, place: usize, sought: u32) -> Seen
     requires { ⌜ Within c (length (now s)) × (familyOf (kindOf kind) ≡ Unsigned) ⌝ }
     ensures { λ r. ⌜ ToldSeen (askedFor (kindOf kind)) place sought (now (s .entry)) c r ⌝ }
 {
-    match read_headings::read(c, s, Wanted::This(kind), 4096) {
+    match read_headings::read(c, s, Wanted::This(kind), LONGEST_LIST) {
         Begun::Body(h, n, d) => match read_bodies::unsigned::judge(d, s, h, n, place, sought) {
             Judged::Whole(v, less, _) => Seen::Record(n, v, less),
             Judged::No(m, p) => Seen::No(m, p),

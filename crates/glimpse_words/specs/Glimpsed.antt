@@ -5,6 +5,7 @@ use mathlib.Core.List.{List}
 use Prim.Native.Nat.{ℕ, _+_, _-_, _*_, _/_, _%_, _^_, _≤_}
 use Rattle.layout.specs.Bits.{inBits}
 use Rattle.layout.specs.Layout.{word}
+use Rattle.format.specs.Limits.{largestWord}
 use Rattle.format.specs.Codes.{Word}
 use Rattle.bits.specs.Cursor.{onward, Taken}
 use Rattle.bits.specs.Look.{Looked}
@@ -23,4 +24,4 @@ pub record GlimpsedAt (image : ℕ → List Bool) (s : List ℕ) (at r : ℕ) : 
 
 -- nothing, or a word that stands at the cursor, with the number of its bits
 abbrev pub Settled : (ℕ → List Bool) → List ℕ → Cursor → ℕ → Type 0
-Settled image s c r = (r ≡ 0 → ⊥) → (r / 64 ≤ 4294967295) × Taken (word Word image) s c (r / 64) (onward c (r % 64))
+Settled image s c r = (r ≡ 0 → ⊥) → (r / 64 ≤ largestWord) × Taken (word Word image) s c (r / 64) (onward c (r % 64))

@@ -2,13 +2,14 @@
 // bits; it is 0 where the look does not settle it, because the word is long, cut short or bad.
 ghost use mathlib.Core.Path.{_≡_};
 ghost use Prim.Native.Nat.{_+_, _*_, _≤_, _<_};
+ghost use Rattle.format.specs.Limits.{largestWord};
 ghost use Rattle.format.specs.Codes.{gamma, delta, rice, variableByte};
 ghost use Rattle.glimpse_words.specs.Glimpsed.{Glimpsed};
 use bits::small::power;
 
 // A word and its number of bits, as one number.
 fn pack(w: u64, bits: u32) -> u64
-    requires { ⌜ (w ≤ 4294967295) × (bits ≤ 57) ⌝ }
+    requires { ⌜ (w ≤ largestWord) × (bits ≤ 57) ⌝ }
     ensures { λ r. ⌜ r ≡ w * 64 + bits ⌝ }
 {
     w * 64 + bits as u64

@@ -4,6 +4,7 @@ ghost use Prim.Native.Nat.{_≤_};
 ghost use Rattle.format.specs.Kinds.{kindNumber};
 ghost use Rattle.format.specs.Records.{codeNumber};
 ghost use Rattle.headings.specs.Headings.{codeOf, carried, carriedWidth, kindOf, familyIf, ToldCode, ToldKind, ToldNumber, Chooses};
+use limits::LARGEST_PARAMETER;
 
 pub mod bodies;
 
@@ -54,7 +55,7 @@ pub fn code_of(code: u32, parameter: u32) -> CodeChoice
         return CodeChoice::Is(Code::Delta);
     }
     if code == 3 {
-        if 31 < parameter {
+        if LARGEST_PARAMETER < parameter {
             return CodeChoice::Unknown;
         }
         return CodeChoice::Is(Code::Rice(parameter));

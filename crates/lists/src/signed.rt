@@ -7,6 +7,9 @@ ghost use Rattle.lists.specs.Tests.{Unless};
 ghost use Rattle.lists.specs.Judged.{ToldList};
 use crate::Judged;
 
+// The lower end of the range; the upper one is i32's own.
+const LOWEST: i32 = -limits::LARGEST_CORRECTION;
+
 // The word that stands for a correction. The value before it does not matter.
 pub fn word(v: i32) -> u32
     requires { ⌜ InRange Corrections v ⌝ }
@@ -19,14 +22,14 @@ pub fn word(v: i32) -> u32
     }
 }
 
-// Whether a correction is outside the range, whose upper end is i32's own.
+// Whether a correction is outside the range.
 fn outside(v: i32) -> bool
     ensures { λ r. ⌜ Unless (InRange Corrections v) r ⌝ }
 {
     if v == 0 {
         return true;
     }
-    v < -2147483647
+    v < LOWEST
 }
 
 // The first place with a value outside the range, if there is one.

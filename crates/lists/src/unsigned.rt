@@ -7,6 +7,8 @@ ghost use Rattle.format.specs.Kinds.{InRange, NotBelow, Fits, wordOf};
 ghost use Rattle.lists.specs.Tests.{Unless};
 ghost use Rattle.lists.specs.Judged.{unsignedKind, ToldList};
 use crate::Judged;
+use limits::LARGEST_INSTANT;
+use limits::LARGEST_WORD;
 
 // The word that stands for a value after the one before; the first has 0 before it.
 pub fn word(instants: bool, before: u32, v: u32) -> u32
@@ -21,12 +23,12 @@ fn outside(instants: bool, v: u32) -> bool
     ensures { λ r. ⌜ Unless (InRange (unsignedKind instants) (pos v)) r ⌝ }
 {
     if instants {
-        return 4294967294 < v;
+        return LARGEST_INSTANT < v;
     }
     if v < 1 {
         return true;
     }
-    4294967295 < v
+    LARGEST_WORD < v
 }
 
 // Whether a value is an instant below the one before.

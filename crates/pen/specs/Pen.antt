@@ -5,6 +5,7 @@ use mathlib.Core.List.{List, _++_}
 use Prim.Native.Nat.{ℕ, _+_, _*_, _/_, _%_, _^_, _≤_, _<_}
 use lib.ListN.{length, drop}
 use Rattle.layout.specs.Bits.{inBits, bitsOf, put}
+use Rattle.format.specs.Limits.{longestBuffer}
 use Rattle.bits.specs.declared.BitPos.{BitPos}
 use Rattle.pen.specs.declared.Pen.{Pen}
 
@@ -20,7 +21,7 @@ inked s p = put (bitsOf s) (firstOf (p .at .0)) (inBits (p .at .0 % 32) (p .gath
 pub record Inside (p : Pen) (n : ℕ) : Type 0 where
   pub held : p .gathered < 2 ^ (p .at .0 % 32)
   pub inside : p .at .0 ≤ 8 * n
-  pub small : n ≤ 65536
+  pub small : n ≤ longestBuffer
 
 -- a buffer that has room for the bits new where the pen is
 pub record Room (new : List Bool) (s : List ℕ) (p : Pen) : Type 0 where

@@ -4,6 +4,7 @@ ghost use mathlib.Core.List.{_++_};
 ghost use Prim.Native.Nat.{_+_, _*_, _^_, _≤_, _<_};
 ghost use lib.ListN.{length};
 ghost use Rattle.layout.specs.Bits.{inBits, bitsOf, put, zeros};
+ghost use Rattle.format.specs.Limits.{longestBuffer};
 ghost use Rattle.pen.specs.Pen.{Inside, inked, Opened, Drawn};
 use crate::Pen;
 use crate::write;
@@ -24,7 +25,7 @@ fn byte(buf: &mut [u8], q: usize, b: u8)
 
 // 32 bits, from a byte on.
 fn store(buf: &mut [u8], first: BytePos, bits: u32)
-    requires { ⌜ (first .0 + 4 ≤ length (now buf)) × (length (now buf) ≤ 65536) ⌝ }
+    requires { ⌜ (first .0 + 4 ≤ length (now buf)) × (length (now buf) ≤ longestBuffer) ⌝ }
     ensures { λ r. ⌜ bitsOf (now (buf .exit)) ≡ put (bitsOf (now (buf .entry))) (8 * first .0) (inBits 32 bits) ⌝ }
 {
     let q = first.byte();
@@ -37,7 +38,7 @@ fn store(buf: &mut [u8], first: BytePos, bits: u32)
 impl Pen {
     // At a bit of a buffer. What stands before it in its four bytes is gathered, to be stored again with what comes after.
     pub fn open(buf: &[u8], at: BitPos) -> Pen
-        requires { ⌜ (at .0 ≤ 8 * length (now buf)) × (length (now buf) ≤ 65536) ⌝ }
+        requires { ⌜ (at .0 ≤ 8 * length (now buf)) × (length (now buf) ≤ longestBuffer) ⌝ }
         ensures { λ r. ⌜ Opened (now (buf .entry)) at r ⌝ }
     {
         let bit = at.bit();

@@ -3,6 +3,7 @@ ghost use mathlib.Core.Path.{_≡_};
 ghost use Prim.Native.Nat.{_+_, _-_, _*_, _/_, _%_, _^_, _≤_, _<_};
 ghost use lib.ListN.{length};
 ghost use Rattle.layout.specs.Bits.{inBits, bitsOf, put};
+ghost use Rattle.format.specs.Limits.{longestBuffer};
 ghost use Rattle.pen.specs.Laws.Bytes.{patched};
 use bits::number::part;
 use bits::small::least;
@@ -31,7 +32,7 @@ fn within_byte(buf: &mut [u8], at: usize, w: usize, v: u8)
 
 // The lowest width bits of value.
 pub fn field(buf: &mut [u8], at: usize, width: usize, value: u32)
-    requires { ⌜ (at + width ≤ 8 * length (now buf)) × (width ≤ 32) × (length (now buf) ≤ 65536) ⌝ }
+    requires { ⌜ (at + width ≤ 8 * length (now buf)) × (width ≤ 32) × (length (now buf) ≤ longestBuffer) ⌝ }
     ensures { λ r. ⌜ bitsOf (now (buf .exit)) ≡ put (bitsOf (now (buf .entry))) at (inBits width value) ⌝ }
 {
     let mut done = 0;

@@ -1,6 +1,7 @@
 // A word of whichever code of words a list has, read at a cursor, or told by one look at its bits.
 ghost use Prim.Native.Nat.{_*_, _≤_, _<_};
 ghost use lib.ListN.{length};
+ghost use Rattle.format.specs.Limits.{longestBuffer};
 ghost use Rattle.format.specs.Codes.{Word};
 ghost use Rattle.bits.specs.Cursor.{Within};
 ghost use Rattle.glimpse_words.specs.Glimpsed.{GlimpsedAt, Settled};
@@ -29,7 +30,7 @@ pub fn word(c: Cursor, s: &[u8], code: Words) -> Read
 
 // The same by one look at the bits from `at` on, which settles most words, and with no cursor to hand back.
 fn look(s: &[u8], at: usize, code: Words) -> u64
-    requires { ⌜ (8 ≤ length (now s)) × (at < 8 * length (now s)) × (length (now s) ≤ 65536) × Known code ⌝ }
+    requires { ⌜ (8 ≤ length (now s)) × (at < 8 * length (now s)) × (length (now s) ≤ longestBuffer) × Known code ⌝ }
     ensures { λ r. ⌜ GlimpsedAt (imageBy code) (now (s .entry)) at r ⌝ }
 {
     let n = bits::number::look(s, at);

@@ -3,6 +3,7 @@ ghost use lib.ListN.{length};
 ghost use Rattle.bits.specs.Cursor.{Within};
 ghost use Rattle.read_counts.specs.Told.{ToldCountField};
 use bits::Cursor;
+use limits::LONGEST_LIST;
 use read_words::Read;
 use read_words::gamma;
 use reading::Refusal;
@@ -20,7 +21,7 @@ pub fn read(c: Cursor, s: &[u8], room: usize) -> CountField
     match gamma::read(c, s) {
         Read::Took(w, d) => {
             let n = (w - 1) as usize;
-            if 4096 < n {
+            if LONGEST_LIST < n {
                 return CountField::No(Refusal::TooMany);
             }
             if room < n {

@@ -10,6 +10,7 @@ use crate::Read;
 use bits::Cursor;
 use headings::Heading;
 use headings::Kind;
+use limits::LONGEST_LIST;
 use read_headings::Begun;
 use reading::Kept;
 use wanted::Wanted;
@@ -50,7 +51,7 @@ fn listed(c: Cursor, s: &[u8], h: Heading, n: usize, list: &mut [i32]) -> Read
         let mut few = [0i32; 64];
         return copied(c, s, h, n, &mut few, list);
     }
-    let mut many = [0i32; 4096];
+    let mut many = [0i32; LONGEST_LIST];
     copied(c, s, h, n, &mut many, list)
 }
 

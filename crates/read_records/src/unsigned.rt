@@ -14,6 +14,7 @@ use crate::Read;
 use bits::Cursor;
 use headings::Heading;
 use headings::Kind;
+use limits::LONGEST_LIST;
 use read_headings::Begun;
 use reading::Kept;
 use wanted::Wanted;
@@ -54,7 +55,7 @@ fn listed(c: Cursor, s: &[u8], h: Heading, n: usize, list: &mut [u32]) -> Read
         let mut few = [0u32; 64];
         return copied(c, s, h, n, &mut few, list);
     }
-    let mut many = [0u32; 4096];
+    let mut many = [0u32; LONGEST_LIST];
     copied(c, s, h, n, &mut many, list)
 }
 

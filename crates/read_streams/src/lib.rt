@@ -13,6 +13,7 @@ use bits::BitPos;
 use bits::Cursor;
 use headings::Heading;
 use headings::Kind;
+use limits::LONGEST_LIST;
 use read_headings::Begun;
 use reading::Judged;
 use reading::JudgedCorrections;
@@ -86,7 +87,7 @@ pub fn check(start: Cursor, s: &[u8]) -> Checked
     let mut records = 0;
     let mut values = 0;
     loop {
-        match read_headings::read(c, s, Wanted::Any, 4096) {
+        match read_headings::read(c, s, Wanted::Any, LONGEST_LIST) {
             Begun::Body(h, n, d) => match pass(d, s, h, n) {
                 Passed::After(e) => {
                     records += 1;

@@ -13,6 +13,9 @@ use headings::bodies::Words;
 use read_words::Read;
 use reading::Refusal;
 
+// In 64 bits, as the sum of an instant and a word is.
+const LARGEST_INSTANT: u64 = limits::LARGEST_INSTANT as u64;
+
 // A value formed of a word, or why it is none.
 pub enum Value {
     Is(u32, Cursor),
@@ -26,7 +29,7 @@ fn formed(c: Cursor, d: Cursor, s: &[u8], code: Words, w: u32, instants: bool, b
 {
     if instants {
         let v = before as u64 + w as u64 - 1;
-        if 4294967294 < v {
+        if LARGEST_INSTANT < v {
             return Value::No(Refusal::OutOfRange, c.at());
         }
         return Value::Is(v as u32, d);

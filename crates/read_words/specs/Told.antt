@@ -6,6 +6,7 @@ use Prim.Native.Nat.{ℕ, _+_, _-_, _/_, _^_, _≤_, _<_}
 use Rattle.layout.specs.Bits.{zeros}
 use Rattle.layout.specs.Layout.{Stops, word}
 use Rattle.layout.specs.Dead.{Dies}
+use Rattle.format.specs.Limits.{largestWord}
 use Rattle.bits.specs.Cursor.{left, to, Taken}
 use Rattle.bits.specs.declared.BitPos.{BitPos}
 use Rattle.bits.specs.declared.Cursor.{Cursor}
@@ -52,6 +53,6 @@ made f (Bad p) = Bad p
 
 -- a word taken and `by` are a word of 32 bits
 abbrev pub Fits : ℕ → Read → Type 0
-Fits by (Took w d) = by + w ≤ 4294967295
+Fits by (Took w d) = by + w ≤ largestWord
 Fits by Cut = Unit {0}
 Fits by (Bad p) = Unit {0}

@@ -12,6 +12,7 @@ use crate::parts::raised;
 use crate::parts::zeros;
 use bits::Cursor;
 use bits::small::power;
+use limits::LARGEST_WORD;
 
 // The largest number in the bits after a word's first one, which is worth p.
 fn most_after(p: u32, top: u32) -> u64
@@ -44,5 +45,5 @@ pub fn read(c: Cursor, s: &[u8]) -> Read
     requires { ⌜ Within c (length (now s)) ⌝ }
     ensures { λ r. ⌜ ToldWord Word gamma (now (s .entry)) c r ⌝ }
 {
-    read_upto(c, s, 31, 4294967295)
+    read_upto(c, s, 31, LARGEST_WORD)
 }

@@ -2,6 +2,7 @@
 ghost use mathlib.Core.Path.{_≡_};
 ghost use Prim.Native.Nat.{_+_, _-_, _^_, _≤_, _<_};
 ghost use lib.ListN.{length};
+ghost use Rattle.format.specs.Limits.{largestWord};
 ghost use Rattle.bits.specs.Cursor.{Within};
 ghost use Rattle.layout.specs.Bits.{inBits};
 ghost use Rattle.read_words.specs.Told.{ToldWord, Upto, run, Among, Live, made, Fits};
@@ -13,7 +14,7 @@ use bits::small::least;
 
 // At most so many zeros, and a one.
 pub fn zeros(c: Cursor, s: &[u8], most: usize) -> Read
-    requires { ⌜ Within c (length (now s)) × (most ≤ 4294967294) ⌝ }
+    requires { ⌜ Within c (length (now s)) × (most < largestWord) ⌝ }
     ensures { λ r. ⌜ ToldWord (Upto most) run (now (s .entry)) c r ⌝ }
 {
     let have = c.left();

@@ -2,6 +2,7 @@
 ghost use Rattle.reading.specs.Places.{ToldPlace};
 use bits::BitPos;
 use bits::Cursor;
+use limits::LONGEST_BUFFER;
 
 // A cursor within the buffer, or that the positions are outside document 01's rule.
 pub enum Placed {
@@ -12,7 +13,7 @@ pub enum Placed {
 pub fn span(s: &[u8], start: BitPos, stop: BitPos) -> Placed
     ensures { λ r. ⌜ ToldPlace (now (s .entry)) start stop r ⌝ }
 {
-    if 65536 < s.len() {
+    if LONGEST_BUFFER < s.len() {
         return Placed::Outside;
     }
     if stop.bit() < start.bit() {

@@ -2,6 +2,7 @@
 ghost use Rattle.format.specs.Writing.{WritesEnd};
 ghost use Rattle.writing.specs.Wrote.{outcomeOf};
 use bits::BitPos;
+use limits::LONGEST_BUFFER;
 use writing::Wrote;
 
 pub fn write_end(buf: &mut [u8], start: BitPos) -> Wrote
@@ -9,7 +10,7 @@ pub fn write_end(buf: &mut [u8], start: BitPos) -> Wrote
 {
     let bytes = buf.len();
     let at = start.bit();
-    if 65536 < bytes {
+    if LONGEST_BUFFER < bytes {
         return Wrote::Outside;
     }
     if 8 * bytes < at {

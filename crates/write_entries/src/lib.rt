@@ -6,6 +6,8 @@ ghost use Rattle.format.specs.Writing.{Writes};
 ghost use Rattle.writing.specs.Wrote.{outcomeOf};
 use bits::BitPos;
 use headings::Choice;
+use limits::LONGEST_BUFFER;
+use limits::LONGEST_LIST;
 use lists::Judged;
 use write_records::Put;
 use writing::Wrote;
@@ -21,7 +23,7 @@ pub fn write(
 ) -> Wrote
     ensures { λ r. ⌜ Writes (now (buf .entry)) (start .0) Unsigned code parameter kind (map pos (now (values .entry))) (outcomeOf r) (now (buf .exit)) ⌝ }
 {
-    if 65536 < buf.len() {
+    if LONGEST_BUFFER < buf.len() {
         return Wrote::Outside;
     }
     if 8 * buf.len() < start.bit() {
@@ -29,7 +31,7 @@ pub fn write(
     }
     match headings::choose(false, code, parameter, kind) {
         Choice::Is(h) => {
-            if 4096 < values.len() {
+            if LONGEST_LIST < values.len() {
                 return Wrote::TooMany;
             }
             let chosen = h.kind;
@@ -57,7 +59,7 @@ pub fn write_corrections(
 ) -> Wrote
     ensures { λ r. ⌜ Writes (now (buf .entry)) (start .0) Signed code parameter kind (now (values .entry)) (outcomeOf r) (now (buf .exit)) ⌝ }
 {
-    if 65536 < buf.len() {
+    if LONGEST_BUFFER < buf.len() {
         return Wrote::Outside;
     }
     if 8 * buf.len() < start.bit() {
@@ -65,7 +67,7 @@ pub fn write_corrections(
     }
     match headings::choose(true, code, parameter, kind) {
         Choice::Is(h) => {
-            if 4096 < values.len() {
+            if LONGEST_LIST < values.len() {
                 return Wrote::TooMany;
             }
             match lists::signed::judge(values) {

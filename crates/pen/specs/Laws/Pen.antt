@@ -12,6 +12,7 @@ use lib.Seq.{drop-drop}
 use Rattle.layout.specs.Bits.{inBits, Bytes, bitsOf, put, zeros}
 use Rattle.layout.specs.Laws.Bits.{val, length-inBits, inBits-split, inBits-cat, inBits-mod, inBits-zero, front-is, front-lt, val-inBits, length-bitsOf, bytes-one}
 use Rattle.layout.specs.Laws.Windows.{put-nil, put-both, put-window, length-put, take-put, drop-put}
+use Rattle.format.specs.Limits.{longestBuffer}
 use Rattle.bits.specs.declared.BitPos.{BitPos}
 use Rattle.pen.specs.declared.Pen.{Pen}
 use Rattle.pen.specs.Pen.{firstOf, inked, Inside, Room, Opened, Drawn, Begun}
@@ -152,7 +153,7 @@ fewer-zeros z w l h =
 
 -- ---- opened
 
-pub opened : (s : List ℕ) (at : BitPos) (g : ℕ) → at .0 ≤ 8 * length s → length s ≤ 65536 → g ≡ val (take (at .0 % 32) (drop (firstOf (at .0)) (bitsOf s))) → Opened s at (record { at = at; gathered = g })
+pub opened : (s : List ℕ) (at : BitPos) (g : ℕ) → at .0 ≤ 8 * length s → length s ≤ longestBuffer → g ≡ val (take (at .0 % 32) (drop (firstOf (at .0)) (bitsOf s))) → Opened s at (record { at = at; gathered = g })
 unfolding inked put
 opened s at g h k e =
     let c : ℕ = at .0 % 32 in

@@ -87,5 +87,5 @@ checks-all {bytes} {c} {x} h a b y =
     let all : left c bytes ≡ bitsOf bytes = ap₂ (λ (i j : ℕ). window bytes i j) a b ∙ take-all (8 * length bytes) (bitsOf bytes) (omega (arith, length-bitsOf bytes)) in
     Reading.checked h (subst₂ (λ (n : ℕ) (w : List Bool). Check n x w 0 0) b all y)
 
-pub checks-long : {bytes : List ℕ} {p : BitPos} → 65536 < length bytes → p .0 ≡ 0 → Checks bytes (refuses 12 (p .0))
+pub checks-long : {bytes : List ℕ} {p : BitPos} → longestBuffer < length bytes → p .0 ≡ 0 → Checks bytes (refuses 12 (p .0))
 checks-long {bytes} h e = subst (λ (n : ℕ). Checks bytes (refuses 12 n)) (sym e) (Reading.outside (λ k. omega arith))

@@ -6,12 +6,13 @@ use Prim.Native.Nat.{ℕ, _*_, _/_, _%_, _≤_, _<_}
 use native.Mathlib.Omega.{arith}
 use lib.ListN.{length}
 use Rattle.layout.specs.Layout.{Layout}
+use Rattle.format.specs.Limits.{longestBuffer}
 use Rattle.bits.specs.Cursor.{Within, Taken, Refuses}
 use Rattle.bits.specs.declared.BitPos.{BitPos}
 use Rattle.read_middles.specs.Parts.{cursor, Halting, Halted, ToldNext, goes, halts}
 
 -- bare numbers that lie within a buffer
-pub lies : (s : List ℕ) (at stop : ℕ) → (at ≤ stop) × (stop ≤ 8 * length s) × (length s ≤ 65536) → Within (cursor at stop) (length s)
+pub lies : (s : List ℕ) (at stop : ℕ) → (at ≤ stop) × (stop ≤ 8 * length s) × (length s ≤ longestBuffer) → Within (cursor at stop) (length s)
 lies s at stop h = record { order = h .0; inside = h .1; small = h .2 }
 
 module _ {A : Type 0} {L : Layout A} {Good : A → Type 0} {s : List ℕ} {at stop next : ℕ} where

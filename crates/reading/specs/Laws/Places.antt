@@ -4,6 +4,7 @@ use mathlib.Core.List.{List}
 use Prim.Native.Nat.{ℕ, _*_, _≤_, _<_}
 use native.Mathlib.Omega.{arith}
 use lib.ListN.{length}
+use Rattle.format.specs.Limits.{longestBuffer}
 use Rattle.format.specs.Answers.{Span}
 use Rattle.bits.specs.Cursor.{Within}
 use Rattle.bits.specs.declared.BitPos.{BitPos}
@@ -28,7 +29,7 @@ pub placed-within : {bytes : List ℕ} {start stop : BitPos} {r : Placed} {c : C
 placed-within {bytes} t e = let (h, f) = was-placed t e in subst (λ (d : Cursor). Within d (length bytes)) f (record { order = h .order; inside = h .inside; small = h .small })
 
 module _ (bytes : List ℕ) (start stop : BitPos) where
-  pub place-long : 65536 < length bytes → ToldPlace bytes start stop Outside
+  pub place-long : longestBuffer < length bytes → ToldPlace bytes start stop Outside
   place-long h = Places.outside (λ s. omega (arith, s .small))
 
   pub place-order : stop .0 < start .0 → ToldPlace bytes start stop Outside
@@ -37,7 +38,7 @@ module _ (bytes : List ℕ) (start stop : BitPos) where
   pub place-past : 8 * length bytes < stop .0 → ToldPlace bytes start stop Outside
   place-past h = Places.outside (λ s. omega (arith, s .inside))
 
-  pub place-right : {c : Cursor} → c ≡ from start stop → length bytes ≤ 65536 → start .0 ≤ stop .0 → stop .0 ≤ 8 * length bytes → ToldPlace bytes start stop (At c)
+  pub place-right : {c : Cursor} → c ≡ from start stop → length bytes ≤ longestBuffer → start .0 ≤ stop .0 → stop .0 ≤ 8 * length bytes → ToldPlace bytes start stop (At c)
   place-right e a b d = subst (λ (x : Cursor). ToldPlace bytes start stop (At x)) (sym e) (Places.at (record { small = a; order = b; inside = d }))
 
 pub place-same : {bytes : List ℕ} {start stop : BitPos} {a b : Placed} → ToldPlace bytes start stop a → ToldPlace bytes start stop b → a ≡ b

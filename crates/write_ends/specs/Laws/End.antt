@@ -6,6 +6,7 @@ use Prim.Native.Nat.{ℕ, _+_, _-_, _*_, _/_, _≤_, _<_}
 use native.Mathlib.Omega.{arith}
 use lib.ListN.{length, length-replicate, replicate-append-replicate}
 use Rattle.layout.specs.Bits.{Bytes, bitsOf, zeros, put}
+use Rattle.format.specs.Limits.{longestBuffer}
 use Rattle.format.specs.Streams.{toByteEnd}
 use Rattle.format.specs.Answers.{refuses, gives, Start}
 use Rattle.format.specs.Writing as Writing
@@ -16,7 +17,7 @@ use Rattle.writing.specs.Wrote.{outcomeOf}
 use Rattle.writing.specs.Laws.Wrote.{wrote-same}
 
 module _ (bytes : List ℕ) (start : ℕ) where
-  pub end-buffer-long : 65536 < length bytes → WritesEnd bytes start (refuses 12 0) bytes
+  pub end-buffer-long : longestBuffer < length bytes → WritesEnd bytes start (refuses 12 0) bytes
   end-buffer-long h = Writing.outside (λ s. omega (arith, s .small))
 
   pub end-start-outside : 8 * length bytes < start → WritesEnd bytes start (refuses 12 0) bytes

@@ -6,7 +6,7 @@ use Prim.Native.Nat.{ℕ, _*_, _≤_, _<_}
 use native.Mathlib.Omega.{arith}
 use lib.IntN.{ℤ, pos}
 use lib.ListN.{length}
-use Rattle.format.specs.Limits.{longestList, largestParameter}
+use Rattle.format.specs.Limits.{longestBuffer, longestList, largestParameter}
 use Rattle.format.specs.Kinds.{Kind, Family, ListOf}
 use Rattle.format.specs.Records as Records
 use Rattle.format.specs.Records.{anyRecord}
@@ -100,7 +100,7 @@ module _ {f : Family} {code parameter kind : ℕ} {h : Heading} (c : HeadingIs f
 -- ---- before a heading is chosen
 
 module _ (bytes : List ℕ) (start : ℕ) (f : Family) (code parameter kind : ℕ) (vs : List ℤ) where
-  pub buffer-long : 65536 < length bytes → Writes bytes start f code parameter kind vs (refuses 12 0) bytes
+  pub buffer-long : longestBuffer < length bytes → Writes bytes start f code parameter kind vs (refuses 12 0) bytes
   buffer-long h = Writing.outside (λ s. omega (arith, s .small))
 
   pub start-past : 8 * length bytes < start → Writes bytes start f code parameter kind vs (refuses 12 0) bytes
