@@ -5,9 +5,11 @@ ghost use Rattle.format.specs.Kinds.{Unsigned, Signed};
 ghost use Rattle.format.specs.Writing.{Writes, WritesEnd};
 ghost use Rattle.flat_answers.specs.Flat.{flatWritten};
 ghost use Rattle.moortangle_c.specs.Tells.{Tells};
-use bits::BitPos;
+use crate::at;
 use flat_answers::Written;
 use flat_answers::written_of;
+use moortangle::end;
+use moortangle::record;
 
 #[no_mangle]
 pub extern "C" fn moortangle_write(
@@ -20,14 +22,7 @@ pub extern "C" fn moortangle_write(
 ) -> Written
     ensures { λ r. ⌜ Tells flatWritten (λ x. Writes (now (buffer .entry)) start Unsigned code parameter kind (map pos (now (values .entry))) x (now (buffer .exit))) r ⌝ }
 {
-    written_of(moortangle::record::write(
-        buffer,
-        BitPos::new(start as usize),
-        code,
-        parameter,
-        kind,
-        values,
-    ))
+    written_of(record::write(buffer, at(start), code, parameter, kind, values))
 }
 
 #[no_mangle]
@@ -41,19 +36,12 @@ pub extern "C" fn moortangle_write_corrections(
 ) -> Written
     ensures { λ r. ⌜ Tells flatWritten (λ x. Writes (now (buffer .entry)) start Signed code parameter kind (now (values .entry)) x (now (buffer .exit))) r ⌝ }
 {
-    written_of(moortangle::record::write_corrections(
-        buffer,
-        BitPos::new(start as usize),
-        code,
-        parameter,
-        kind,
-        values,
-    ))
+    written_of(record::write_corrections(buffer, at(start), code, parameter, kind, values))
 }
 
 #[no_mangle]
 pub extern "C" fn moortangle_write_end(buffer: &mut [u8], start: u64) -> Written
     ensures { λ r. ⌜ Tells flatWritten (λ x. WritesEnd (now (buffer .entry)) start x (now (buffer .exit))) r ⌝ }
 {
-    written_of(moortangle::end::write_end(buffer, BitPos::new(start as usize)))
+    written_of(end::write_end(buffer, at(start)))
 }

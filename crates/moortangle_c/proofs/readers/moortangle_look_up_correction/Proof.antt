@@ -7,11 +7,11 @@ use borrow.Author.Needs.{needs}
 use Rattle.moortangle_c.proofs.readers.moortangle_look_up_correction.Statement.{statement}
 use Rattle.moortangle_c.proofs.readers.moortangle_look_up_correction.Tie as tie
 
-new-requires : tie.Need-new-requires
-new-requires c κs = search needs
+at-requires : tie.Need-at-requires
+at-requires c κs = search needs
 
-new-requires-2 : tie.Need-new-requires-2
-new-requires-2 c κs = search needs
+at-requires-2 : tie.Need-at-requires-2
+at-requires-2 c κs = search needs
 
 look-up-correction-requires : tie.Need-look-up-correction-requires
 look-up-correction-requires c κs = search needs
@@ -22,14 +22,14 @@ correction-of-requires c κs = search needs
 returns : tie.Need-returns
 returns c =
     let a = c .before .before .before .before .before .args in
-    tells-between flatCorrection (λ (start stop : ℕ). LooksUp (a .buffer .now) start stop Signed (a .kind) (a .place)) (c .before .before .before .new .ensures) (c .before .before .new2 .ensures) (c .before .look-up-correction .ensures) (c .correction-of .ensures)
+    tells-between flatCorrection (λ (start stop : ℕ). LooksUp (a .buffer .now) start stop Signed (a .kind) (a .place)) (c .before .before .before .at .ensures) (c .before .before .at2 .ensures) (c .before .look-up-correction .ensures) (c .correction-of .ensures)
 
 pub moortangle-look-up-correction-spec : {M : Type 1} → statement M
 moortangle-look-up-correction-spec =
     tie.close
     (tie.spec
-    new-requires
-    new-requires-2
+    at-requires
+    at-requires-2
     look-up-correction-requires
     correction-of-requires
     returns)

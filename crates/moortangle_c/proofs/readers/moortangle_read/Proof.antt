@@ -13,11 +13,11 @@ use borrow.Author.Needs.{needs}
 use Rattle.moortangle_c.proofs.readers.moortangle_read.Statement.{statement}
 use Rattle.moortangle_c.proofs.readers.moortangle_read.Tie as tie
 
-new-requires : tie.Need-new-requires
-new-requires c κs = search needs
+at-requires : tie.Need-at-requires
+at-requires c κs = search needs
 
-new-requires-2 : tie.Need-new-requires-2
-new-requires-2 c κs = search needs
+at-requires-2 : tie.Need-at-requires-2
+at-requires-2 c κs = search needs
 
 read-requires : tie.Need-read-requires
 read-requires c κs = search needs
@@ -34,9 +34,9 @@ returns : tie.Need-returns
 returns c =
     let e = c .before .before .before .read in
     let a = c .before .before .before .before .before .before .before .before .before .args in
-    tells-between flatRecord (λ (start stop : ℕ) (x : Outcome Item). Reads (a .buffer .now) start stop Unsigned (a .kind) (map pos (a .list .now)) x (map pos (e .last .1 .1 .1 .1 .0))) (c .before .before .before .before .before .before .new .ensures) (c .before .before .before .before .before .new2 .ensures) (e .ensures .reads) (c .record-of .ensures ∙ flat-item (e .result) (map pos (e .last .1 .1 .1 .1 .0)) (e .ensures .counted))
+    tells-between flatRecord (λ (start stop : ℕ) (x : Outcome Item). Reads (a .buffer .now) start stop Unsigned (a .kind) (map pos (a .list .now)) x (map pos (e .last .1 .1 .1 .1 .0))) (c .before .before .before .before .before .before .at .ensures) (c .before .before .before .before .before .at2 .ensures) (e .ensures .reads) (c .record-of .ensures ∙ flat-item (e .result) (map pos (e .last .1 .1 .1 .1 .0)) (e .ensures .counted))
 
 pub moortangle-read-spec : {M : Type 1} → statement M
 moortangle-read-spec =
     tie.close
-    (tie.spec new-requires new-requires-2 read-requires record-of-requires same-length returns)
+    (tie.spec at-requires at-requires-2 read-requires record-of-requires same-length returns)

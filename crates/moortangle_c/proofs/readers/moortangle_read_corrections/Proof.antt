@@ -10,11 +10,11 @@ use borrow.Author.Needs.{needs}
 use Rattle.moortangle_c.proofs.readers.moortangle_read_corrections.Statement.{statement}
 use Rattle.moortangle_c.proofs.readers.moortangle_read_corrections.Tie as tie
 
-new-requires : tie.Need-new-requires
-new-requires c κs = search needs
+at-requires : tie.Need-at-requires
+at-requires c κs = search needs
 
-new-requires-2 : tie.Need-new-requires-2
-new-requires-2 c κs = search needs
+at-requires-2 : tie.Need-at-requires-2
+at-requires-2 c κs = search needs
 
 read-corrections-requires : tie.Need-read-corrections-requires
 read-corrections-requires c κs = search needs
@@ -31,14 +31,14 @@ returns : tie.Need-returns
 returns c =
     let e = c .before .before .read-corrections in
     let a = c .before .before .before .before .before .before .before .args in
-    tells-between flatRecord (λ (start stop : ℕ) (x : Outcome Item). Reads (a .buffer .now) start stop Signed (a .kind) (a .list .now) x (e .last .1 .1 .1 .1 .0)) (c .before .before .before .before .before .new .ensures) (c .before .before .before .before .new2 .ensures) (e .ensures .reads) (c .record-of .ensures ∙ flat-item (e .result) (e .last .1 .1 .1 .1 .0) (e .ensures .counted))
+    tells-between flatRecord (λ (start stop : ℕ) (x : Outcome Item). Reads (a .buffer .now) start stop Signed (a .kind) (a .list .now) x (e .last .1 .1 .1 .1 .0)) (c .before .before .before .before .before .at .ensures) (c .before .before .before .before .at2 .ensures) (e .ensures .reads) (c .record-of .ensures ∙ flat-item (e .result) (e .last .1 .1 .1 .1 .0) (e .ensures .counted))
 
 pub moortangle-read-corrections-spec : {M : Type 1} → statement M
 moortangle-read-corrections-spec =
     tie.close
     (tie.spec
-    new-requires
-    new-requires-2
+    at-requires
+    at-requires-2
     read-corrections-requires
     record-of-requires
     same-length

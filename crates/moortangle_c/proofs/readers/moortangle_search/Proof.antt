@@ -6,11 +6,11 @@ use borrow.Author.Needs.{needs}
 use Rattle.moortangle_c.proofs.readers.moortangle_search.Statement.{statement}
 use Rattle.moortangle_c.proofs.readers.moortangle_search.Tie as tie
 
-new-requires : tie.Need-new-requires
-new-requires c κs = search needs
+at-requires : tie.Need-at-requires
+at-requires c κs = search needs
 
-new-requires-2 : tie.Need-new-requires-2
-new-requires-2 c κs = search needs
+at-requires-2 : tie.Need-at-requires-2
+at-requires-2 c κs = search needs
 
 search-requires : tie.Need-search-requires
 search-requires c κs = search needs
@@ -21,8 +21,8 @@ place-of-requires c κs = search needs
 returns : tie.Need-returns
 returns c =
     let a = c .before .before .before .before .before .args in
-    tells-between flatPlace (λ (start stop : ℕ). Searches (a .buffer .now) start stop (a .instant)) (c .before .before .before .new .ensures) (c .before .before .new2 .ensures) (c .before .search .ensures) (c .place-of .ensures)
+    tells-between flatPlace (λ (start stop : ℕ). Searches (a .buffer .now) start stop (a .instant)) (c .before .before .before .at .ensures) (c .before .before .at2 .ensures) (c .before .search .ensures) (c .place-of .ensures)
 
 pub moortangle-search-spec : {M : Type 1} → statement M
 moortangle-search-spec =
-    tie.close (tie.spec new-requires new-requires-2 search-requires place-of-requires returns)
+    tie.close (tie.spec at-requires at-requires-2 search-requires place-of-requires returns)

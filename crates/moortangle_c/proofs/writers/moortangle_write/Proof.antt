@@ -10,8 +10,8 @@ use borrow.Author.Needs.{needs}
 use Rattle.moortangle_c.proofs.writers.moortangle_write.Statement.{statement}
 use Rattle.moortangle_c.proofs.writers.moortangle_write.Tie as tie
 
-new-requires : tie.Need-new-requires
-new-requires c κs = search needs
+at-requires : tie.Need-at-requires
+at-requires c κs = search needs
 
 write-requires : tie.Need-write-requires
 write-requires c κs = search needs
@@ -27,8 +27,8 @@ returns c =
     let entry = c .before .before .before in
     let position = entry .before in
     let a = position .before .before .before .before .args in
-    tells-at flatWritten (λ (start : ℕ) (x : Outcome ℕ). Writes (a .buffer .now) start Unsigned (a .code) (a .parameter) (a .kind) (map pos (a .values .now)) x (entry .write .last .0)) (position .new .ensures) (entry .write .ensures) (c .written-of .ensures)
+    tells-at flatWritten (λ (start : ℕ) (x : Outcome ℕ). Writes (a .buffer .now) start Unsigned (a .code) (a .parameter) (a .kind) (map pos (a .values .now)) x (entry .write .last .0)) (position .at .ensures) (entry .write .ensures) (c .written-of .ensures)
 
 pub moortangle-write-spec : {M : Type 1} → statement M
 moortangle-write-spec =
-    tie.close (tie.spec new-requires write-requires written-of-requires same-length returns)
+    tie.close (tie.spec at-requires write-requires written-of-requires same-length returns)
