@@ -1,4 +1,4 @@
-use mathlib.Core.Path.{_≡_, refl, ap, _∙_}
+use mathlib.Core.Path.{_≡_, refl, ap, _∙_, subst}
 use mathlib.Core.List.{List, [], _∷_, _++_}
 use Prim.Native.Nat.{ℕ, _-_, _≤_}
 use lib.IntN.{ℤ, pos}
@@ -13,6 +13,7 @@ use Rattle.read_values.specs.Reading.{Reading}
 use Rattle.read_values.specs.Laws.Signs.{correction-fits}
 use Rattle.read_values.specs.Laws.Told.{correction-was, correction-was-none}
 use Rattle.read_values.specs.Laws.Reading.{read-none, read-more, read-no, read-all}
+use Rattle.reading.specs.Stored.{Put}
 use Rattle.reading.specs.Laws.Stored.{kept-more, stored-more}
 use borrow.Author.Needs.{needs, sfits-of}
 use native.Mathlib.Omega.{arith}
@@ -65,7 +66,7 @@ loop-again c =
     let x = g .0 .0 in
     let fits = correction-fits x (t .takes .valid .0 .0) in
     let h = rw (toZ-ofZ fits) at (k .ensures) in
-    let p = rw (toZ-ofZ fits) at (c .before .put .ensures) in
+    let p : Put (l .list) (l .i) x (c .before .put .last .0) = subst (λ (y : ℤ). Put (l .list) (l .i) y (c .before .put .last .0)) (toZ-ofZ fits) (c .before .put .ensures) in
     let lent = c .before .before .before .before .before .before .before .before .before .before .before .args .list .now in
     rw (toZ-ofZ (sfits-of {w = w32} (k .ok))) (
       omega arith,
