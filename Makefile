@@ -8,7 +8,7 @@ help:
 	@echo 'make streams   run the program on every stream of tests/cases'
 	@echo 'make library   the C boundary: target/library gets libmoortangle.a and its header'
 	@echo 'make examples  two saves in one second, written and read back from C, Rust and Python: examples/'
-	@echo 'make compare   run the writers and readers against the second program, tests/second'
+	@echo 'make compare   run the writers and readers against the second program, tests/second; SEED=N: its random cases'
 	@echo 'make bench     time the library beside plain Rust, tests/bench, as ratios'
 	@echo 'make sizes     the crates by lines and seconds of check: the table of docs/ARCHITECTURE.md'
 
@@ -51,8 +51,11 @@ examples: library
 	@python3 examples/two_saves.py target/examples/libmoortangle.so | diff - examples/printed
 	@echo 'C, Rust and Python each print:' && cat examples/printed
 
+# Each commit tries other random cases; a run that found a difference is run again by the seed it printed.
+SEED ?= $(shell printf '%d' "0x$$(git rev-parse --short=8 HEAD 2>/dev/null || echo 1)")
 compare: library
-	@MOORTANGLE_LIB_DIR='$(CURDIR)/target/library' cargo run --release --offline --locked --quiet --manifest-path tests/second/Cargo.toml --bin compare
+	@echo 'compare: seed $(SEED)'
+	@MOORTANGLE_LIB_DIR='$(CURDIR)/target/library' cargo run --release --offline --locked --quiet --manifest-path tests/second/Cargo.toml --bin compare $(SEED)
 
 bench: library
 	@MOORTANGLE_LIB_DIR='$(CURDIR)/target/library' cargo run --release --offline --locked --quiet --manifest-path tests/bench/Cargo.toml --bin measure

@@ -1,4 +1,4 @@
-//! Compares the static library's writers and readers with the naive ones: `compare [seed [number of random cases]]`.
+//! Compares the static library's writers and readers with the naive ones: `compare seed [number of random cases]`.
 
 #[cfg(not(library_given))]
 compile_error!("set MOORTANGLE_LIB_DIR to the folder that holds libmoortangle.a; only the comparison needs it");
@@ -25,7 +25,6 @@ use std::process::exit;
 use std::thread::{self, JoinHandle};
 use tally::Tally;
 
-const SEED: u64 = 1;
 const RANDOM_WRITINGS: u64 = 200_000;
 const RANDOM_READINGS: u64 = 1_500_000;
 
@@ -84,11 +83,10 @@ fn arguments() -> (u64, Option<u64>) {
     let given: Vec<String> = std::env::args().skip(1).collect();
     let numbers: Option<Vec<u64>> = given.iter().map(|text| text.parse().ok()).collect();
     match numbers.as_deref() {
-        Some([]) => (SEED, None),
         Some([seed]) => (*seed, None),
         Some([seed, cases]) => (*seed, Some(*cases)),
         _ => {
-            eprintln!("usage: compare [seed [number of random cases]]");
+            eprintln!("usage: compare seed [number of random cases]");
             exit(2);
         }
     }
