@@ -1,18 +1,15 @@
-use Prim.Native.Nat.{_≤_}
-use lib.ListN.{length}
+use Rattle.format.specs.Kinds.{Signed}
 use Rattle.format.specs.Answers.{Start}
-use Rattle.format.specs.Kinds.{Corrections}
-use Rattle.headings.specs.Headings.{kindOf}
+use Rattle.headings.specs.Headings.{HeadingIs, kindOf}
 use Rattle.headings.specs.Laws.Bodies.{signed-corrections}
-use Rattle.write_records.specs.declared.Put.the-variants.{Done, Full}
-use Rattle.write_entries.specs.Laws.Record.{was-chosen, was-unknown, was-fine, was-range, was-falls, put-as, valid-for, too-many, at-fault, put-there, buffer-long, start-past, none-chosen}
+use Rattle.write_entries.specs.Laws.Record.{was-chosen, Judging, judging, valid-there, too-many, out-of-range, falls, put-there, buffer-long, start-past, none-chosen}
 use native.Mathlib.Omega.{arith}
 use borrow.Author.Needs.{needs}
 use Rattle.write_entries.proofs.write_corrections.Statement.{statement}
 use Rattle.write_entries.proofs.write_corrections.Tie as tie
 
 returns : tie.Need-returns
-returns c = buffer-long _ _ _ _ _ _ _ (omega (arith, c .if1 .taken))
+returns c = buffer-long (omega (arith, c .if1 .taken))
 
 mul-if2 : tie.Need-mul-if2
 mul-if2 c = search needs
@@ -21,11 +18,34 @@ bit-requires : tie.Need-bit-requires
 bit-requires c κs = search needs
 
 returns-2 : tie.Need-returns-2
-returns-2 c = start-past _ _ _ _ _ _ _ (omega (arith, c .if2 .taken, c .before .bit .ensures))
+returns-2 c = start-past (omega (arith, c .if2 .taken, c .before .bit .ensures))
+
+-- the call, of the state after the two tests
+abbrev call : tie.Else2 → tie.Start
+call c = c .before .before .before .before
 
 -- after the two tests the start is in its place
-place : (c : tie.Else2) → Start (c .before .before .before .before .args .buf .now) (c .before .before .before .before .args .start .0)
+place : (c : tie.Else2) → Start (call c .args .buf .now) (call c .args .start .0)
 place c = record { small = omega (arith, c .before .before .if1 .left); inside = omega (arith, c .if2 .left, c .before .bit .ensures) }
+
+-- the state after the two tests, of the one that has a heading
+abbrev tested : tie.After-h → tie.Else2
+tested c = c .before .before .before
+
+-- the heading that was chosen
+heading : (c : tie.After-h) → let a = call (tested c) .args in HeadingIs Signed (a .code) (a .parameter) (a .kind) (c .h .given .0 .0)
+heading c = was-chosen (c .before .before .choose .ensures) (c .h .given .1)
+
+-- the state that has a heading, of the one in which the list is judged
+abbrev headed : tie.After-judge → tie.After-h
+headed c = c .before .before .before
+
+-- what is known after the judging
+known : (c : tie.After-judge) → let a = call (tested (headed c)) .args in
+    Judging (a .buf .now) (a .start .0) Signed (a .code) (a .parameter) (a .kind) (a .values .now) (headed c .h .given .0 .0) (c .judge .result)
+known c =
+    let h = heading (headed c) in
+    judging (place (tested (headed c))) h (c .before .if3 .left) (signed-corrections (kindOf (headed c .h .given .0 .0 .kind)) (h .chosen .told .family)) (c .judge .ensures)
 
 choose-requires : tie.Need-choose-requires
 choose-requires c κs = search needs
@@ -34,9 +54,7 @@ enum-known-h : tie.Need-enum-known-h
 enum-known-h c = search needs
 
 returns-3 : tie.Need-returns-3
-returns-3 c =
-    let e = c .before .before .before .before .before in
-    too-many (was-chosen (c .before .before .before .before .choose .ensures) (c .before .before .h .given .1)) _ _ _ (place e) (c .if3 .taken)
+returns-3 c = too-many (place (tested (c .before .before))) (heading (c .before .before)) (c .if3 .taken)
 
 judge-requires : tie.Need-judge-requires
 judge-requires c κs = search needs
@@ -45,14 +63,7 @@ enum-told : tie.Need-enum-told
 enum-told c = search needs
 
 put-requires : tie.Need-put-requires
-put-requires c κs =
-    let e = c .before .before .before .before .before .before .before .before .before in
-    let a = e .before .before .before .before .args in
-    let h = was-chosen (c .before .before .before .before .before .before .before .before .choose .ensures) (c .before .before .before .before .before .before .h .given .1) in
-    let t = signed-corrections (kindOf (c .before .before .before .before .before .before .h .given .0 .0 .kind)) (h .chosen .told .family) in
-    let n : length (a .values .now) ≤ 4096 = c .before .before .before .before .if3 .left in
-    let l = was-fine (c .before .before .before .judge .ensures) (c .before .enum-told .given .1) in
-    (valid-for h (a .values .now) Corrections n t l, place e .inside, place e .small)
+put-requires c κs = valid-there (known (c .before .before .before)) (c .before .enum-told .given .1)
 
 enum-known-next : tie.Need-enum-known-next
 enum-known-next c = search needs
@@ -74,48 +85,27 @@ same-length c = search needs
 
 returns-4 : tie.Need-returns-4
 returns-4 c =
-    let e = c .before .before .before .before .before .before .before .before .before .before .before .before .before .before .before in
-    let a = e .before .before .before .before .args in
-    let h = was-chosen (c .before .before .before .before .before .before .before .before .before .before .before .before .before .before .choose .ensures) (c .before .before .before .before .before .before .before .before .before .before .before .before .h .given .1) in
-    let t = signed-corrections (kindOf (c .before .before .before .before .before .before .before .before .before .before .before .before .h .given .0 .0 .kind)) (h .chosen .told .family) in
-    let n : length (a .values .now) ≤ 4096 = c .before .before .before .before .before .before .before .before .before .before .if3 .left in
-    let l = was-fine (c .before .before .before .before .before .before .before .before .before .judge .ensures) (c .before .before .before .before .before .before .before .enum-told .given .1) in
-    let g = c .before .next .given in
-    put-there h (a .buf .now) (a .start .0) (a .values .now) (place e) Corrections n t l (put-as (Done (g .0 .0)) (c .before .before .before .before .before .put .ensures) (g .1))
+    let after-put = c .before .before .before .before .before in
+    let fine = after-put .before .before in
+    put-there (known (fine .before .before)) (fine .enum-told .given .1) (after-put .put .ensures) (c .before .next .given .1)
 
 same-length-2 : tie.Need-same-length-2
 same-length-2 c = search needs
 
 returns-5 : tie.Need-returns-5
 returns-5 c =
-    let e = c .before .before .before .before .before .before .before .before .before .before .before .before .before .before in
-    let a = e .before .before .before .before .args in
-    let h = was-chosen (c .before .before .before .before .before .before .before .before .before .before .before .before .before .choose .ensures) (c .before .before .before .before .before .before .before .before .before .before .before .h .given .1) in
-    let t = signed-corrections (kindOf (c .before .before .before .before .before .before .before .before .before .before .before .h .given .0 .0 .kind)) (h .chosen .told .family) in
-    let n : length (a .values .now) ≤ 4096 = c .before .before .before .before .before .before .before .before .before .if3 .left in
-    let l = was-fine (c .before .before .before .before .before .before .before .before .judge .ensures) (c .before .before .before .before .before .before .enum-told .given .1) in
-    put-there h (a .buf .now) (a .start .0) (a .values .now) (place e) Corrections n t l (put-as Full (c .before .before .before .before .put .ensures) (c .enum-told2 .given .1))
+    let after-put = c .before .before .before .before in
+    let fine = after-put .before .before in
+    put-there (known (fine .before .before)) (fine .enum-told .given .1) (after-put .put .ensures) (c .enum-told2 .given .1)
 
 returns-6 : tie.Need-returns-6
-returns-6 c =
-    let e = c .before .before .before .before .before .before .before .before .before in
-    let a = e .before .before .before .before .args in
-    let h = was-chosen (c .before .before .before .before .before .before .before .before .choose .ensures) (c .before .before .before .before .before .before .h .given .1) in
-    let t = signed-corrections (kindOf (c .before .before .before .before .before .before .h .given .0 .0 .kind)) (h .chosen .told .family) in
-    let n : length (a .values .now) ≤ 4096 = c .before .before .before .before .if3 .left in
-    at-fault h (a .buf .now) (a .start .0) (a .values .now) (place e) Corrections n t (was-range (c .before .before .before .judge .ensures) (c .before .i .given .1))
+returns-6 c = out-of-range (known (c .before .before .before)) (c .before .i .given .1)
 
 returns-7 : tie.Need-returns-7
-returns-7 c =
-    let e = c .before .before .before .before .before .before .before .before .before in
-    let a = e .before .before .before .before .args in
-    let h = was-chosen (c .before .before .before .before .before .before .before .before .choose .ensures) (c .before .before .before .before .before .before .h .given .1) in
-    let t = signed-corrections (kindOf (c .before .before .before .before .before .before .h .given .0 .0 .kind)) (h .chosen .told .family) in
-    let n : length (a .values .now) ≤ 4096 = c .before .before .before .before .if3 .left in
-    at-fault h (a .buf .now) (a .start .0) (a .values .now) (place e) Corrections n t (was-falls (c .before .before .before .judge .ensures) (c .before .i2 .given .1))
+returns-7 c = falls (known (c .before .before .before)) (c .before .i2 .given .1)
 
 returns-8 : tie.Need-returns-8
-returns-8 c = none-chosen _ _ _ _ _ _ _ (place (c .before .before .before)) (was-unknown (c .before .before .choose .ensures) (c .enum-told3 .given .1))
+returns-8 c = none-chosen (place (c .before .before .before)) (c .before .before .choose .ensures) (c .enum-told3 .given .1)
 
 pub write-corrections-spec : {M : Type 1} → statement M
 write-corrections-spec =

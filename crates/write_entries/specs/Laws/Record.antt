@@ -1,5 +1,5 @@
 -- What a record writer's tests and writes come to, and that its contract leaves it no choice.
-use mathlib.Core.Path.{_≡_, refl, sym, ap, subst}
+use mathlib.Core.Path.{_≡_, refl, sym, ap, subst, subst₂}
 use mathlib.Core.Bool.{Bool}
 use mathlib.Core.List.{List}
 use Prim.Native.Nat.{ℕ, _*_, _≤_, _<_}
@@ -39,28 +39,32 @@ pub was-chosen : {f : Family} {code parameter kind : ℕ} {r : Choice} {h : Head
 was-chosen {f} {code} {parameter} {kind} (Headings.is x) e = subst (λ (h : Heading). HeadingIs f code parameter kind h) (cc) x
 was-chosen (Headings.unknown x) e = let z : _≡_ {A = ℕ} 0 1 = cc in absurd (omega arith)
 
-pub was-unknown : {f : Family} {code parameter kind : ℕ} {r : Choice} → Chooses f code parameter kind r → r ≡ OfHeading.Unknown
+was-unknown : {f : Family} {code parameter kind : ℕ} {r : Choice} → Chooses f code parameter kind r → r ≡ OfHeading.Unknown
     → (c : Records.Code) (t : Kind) → Chosen f code parameter kind c t → ⊥
 was-unknown (Headings.is x) e = let z : _≡_ {A = ℕ} 0 1 = cc in absurd (omega arith)
 was-unknown (Headings.unknown x) e = x
 
-pub was-fine : {t : Kind} {vs : List ℤ} {r : Judged} → ToldList t vs r → r ≡ Fine → ListOf t (pos 0) vs
+-- a heading is chosen for a list that is not too long, and r is told of the list
+pub record Judging (bytes : List ℕ) (start : ℕ) (f : Family) (code parameter kind : ℕ) (vs : List ℤ) (h : Heading) (r : Judged) : Type 0 where
+  pub place : Start bytes start
+  pub heading : HeadingIs f code parameter kind h
+  pub short : length vs ≤ longestList
+  pub told : ToldList (kindOf (h .kind)) vs r
+
+was-fine : {t : Kind} {vs : List ℤ} {r : Judged} → ToldList t vs r → r ≡ Fine → ListOf t (pos 0) vs
 was-fine (Lists.fine x) e = x
 was-fine (Lists.range x) e = let z : _≡_ {A = ℕ} 0 1 = cc in absurd (omega arith)
 was-fine (Lists.falls x) e = let z : _≡_ {A = ℕ} 0 1 = cc in absurd (omega arith)
 
-pub was-range : {t : Kind} {vs : List ℤ} {r : Judged} {i : ℕ} → ToldList t vs r → r ≡ Range i → Faulty t (pos 0) vs 2 i
+was-range : {t : Kind} {vs : List ℤ} {r : Judged} {i : ℕ} → ToldList t vs r → r ≡ Range i → Faulty t (pos 0) vs 2 i
 was-range (Lists.fine x) e = let z : _≡_ {A = ℕ} 0 1 = cc in absurd (omega arith)
 was-range {t} {vs} (Lists.range x) e = subst (λ (k : ℕ). Faulty t (pos 0) vs 2 k) (cc) x
 was-range (Lists.falls x) e = let z : _≡_ {A = ℕ} 0 1 = cc in absurd (omega arith)
 
-pub was-falls : {t : Kind} {vs : List ℤ} {r : Judged} {i : ℕ} → ToldList t vs r → r ≡ Falls i → Faulty t (pos 0) vs 3 i
+was-falls : {t : Kind} {vs : List ℤ} {r : Judged} {i : ℕ} → ToldList t vs r → r ≡ Falls i → Faulty t (pos 0) vs 3 i
 was-falls (Lists.fine x) e = let z : _≡_ {A = ℕ} 0 1 = cc in absurd (omega arith)
 was-falls (Lists.range x) e = let z : _≡_ {A = ℕ} 0 1 = cc in absurd (omega arith)
 was-falls {t} {vs} (Lists.falls x) e = subst (λ (k : ℕ). Faulty t (pos 0) vs 3 k) (cc) x
-
-pub put-as : {bytes : List ℕ} {start : ℕ} {image : List Bool} {after : List ℕ} {r : Put} (q : Put) → Puts bytes start image (putOutcome r) after → r ≡ q → Puts bytes start image (putOutcome q) after
-put-as {bytes} {start} {image} {after} q p e = subst (λ (x : Put). Puts bytes start image (putOutcome x) after) e p
 
 -- ---- the record that is asked for
 
@@ -72,44 +76,59 @@ valid-parameter (Rice k) p h e = (λ x. omega arith, λ x. absurd (x refl))
 valid-parameter VariableByte p h e = (λ x. omega arith, λ x. refl)
 valid-parameter Interpolative p h e = (λ x. omega arith, λ x. refl)
 
-module _ {f : Family} {code parameter kind : ℕ} {h : Heading} (c : HeadingIs f code parameter kind h) where
-  pub valid-for : (vs : List ℤ) (t : Kind) → length vs ≤ longestList → kindOf (h .kind) ≡ t → ListOf t (pos 0) vs → ValidFor f h vs
-  valid-for vs t n e l =
-      record {
-        valid = record { kind = c .chosen .instants; parameter = valid-parameter (h .code) parameter (c .chosen .small) (c .carries); count = n; values = subst (λ (k : Kind). ListOf k (pos 0) vs) (sym e) l };
-        family = c .chosen .told .family;
-      }
+module _ {bytes : List ℕ} {start : ℕ} {f : Family} {code parameter kind : ℕ} {vs : List ℤ} {h : Heading} where
+  pub too-many : Start bytes start → HeadingIs f code parameter kind h → longestList < length vs → Writes bytes start f code parameter kind vs (refuses 1 0) bytes
+  too-many s c n = Writing.judging s (c .chosen) (Writing.long n)
 
-  image-same : (vs : List ℤ) → recordImage h vs ≡ written (codeOf (h .code)) (kindOf (h .kind)) parameter vs
-  unfolding recordImage
-  image-same vs = ap (λ (k : ℕ). anyRecord .bits (record { code = codeOf (h .code); kind = kindOf (h .kind); parameter = k; values = vs })) (sym (c .carries))
+  -- the kind that the list is judged as is the heading's
+  pub judging : {t : Kind} {r : Judged} → Start bytes start → HeadingIs f code parameter kind h → length vs ≤ longestList → kindOf (h .kind) ≡ t → ToldList t vs r
+      → Judging bytes start f code parameter kind vs h r
+  judging {r = r} s c n e x = record { place = s; heading = c; short = n; told = subst (λ (k : Kind). ToldList k vs r) (sym e) x }
 
-  module _ (bytes : List ℕ) (start : ℕ) (vs : List ℤ) (s : Start bytes start) where
-    pub too-many : longestList < length vs → Writes bytes start f code parameter kind vs (refuses 1 0) bytes
-    too-many n = Writing.judging s (c .chosen) (Writing.long n)
+  module _ {r : Judged} (known : Judging bytes start f code parameter kind vs h r) where
+    faulty : {n i : ℕ} → Faulty (kindOf (h .kind)) (pos 0) vs n i → Writes bytes start f code parameter kind vs (refuses n i) bytes
+    faulty x = Writing.judging (known .place) (known .heading .chosen) (Writing.faulty (known .short) x)
 
-    pub at-fault : {n i : ℕ} (t : Kind) → length vs ≤ longestList → kindOf (h .kind) ≡ t → Faulty t (pos 0) vs n i → Writes bytes start f code parameter kind vs (refuses n i) bytes
-    at-fault {n} {i} t l e x = Writing.judging s (c .chosen) (Writing.faulty l (subst (λ (k : Kind). Faulty k (pos 0) vs n i) (sym e) x))
+    pub out-of-range : {i : ℕ} → r ≡ Range i → Writes bytes start f code parameter kind vs (refuses 2 i) bytes
+    out-of-range e = faulty (was-range (known .told) e)
 
-    pub put-there : {x : Outcome ℕ} {after : List ℕ} (t : Kind) → length vs ≤ longestList → kindOf (h .kind) ≡ t → ListOf t (pos 0) vs → Puts bytes start (recordImage h vs) x after
-        → Writes bytes start f code parameter kind vs x after
-    put-there {x} {after} t l e k p =
-        Writing.judging s (c .chosen)
-        (Writing.writing l (subst (λ (u : Kind). ListOf u (pos 0) vs) (sym e) k) (subst (λ (i : List Bool). Puts bytes start i x after) (image-same vs) p))
+    pub falls : {i : ℕ} → r ≡ Falls i → Writes bytes start f code parameter kind vs (refuses 3 i) bytes
+    falls e = faulty (was-falls (known .told) e)
+
+    image-same : recordImage h vs ≡ written (codeOf (h .code)) (kindOf (h .kind)) parameter vs
+    unfolding recordImage
+    image-same = ap (λ (k : ℕ). anyRecord .bits (record { code = codeOf (h .code); kind = kindOf (h .kind); parameter = k; values = vs })) (sym (known .heading .carries))
+
+    module _ (fine : r ≡ Fine) where
+      pub valid-there : ValidFor f h vs × (start ≤ 8 * length bytes) × (length bytes ≤ longestBuffer)
+      valid-there =
+          let c = known .heading .chosen in
+          let parameter-fits = valid-parameter (h .code) parameter (c .small) (known .heading .carries) in (
+            record { valid = record { kind = c .instants; parameter = parameter-fits; count = known .short; values = was-fine (known .told) fine }; family = c .told .family },
+            known .place .inside,
+            known .place .small,
+          )
+
+      pub put-there : {p q : Put} {after : List ℕ} → Puts bytes start (recordImage h vs) (putOutcome p) after → p ≡ q → Writes bytes start f code parameter kind vs (putOutcome q) after
+      put-there {after = after} puts e =
+          Writing.judging (known .place) (known .heading .chosen)
+          (Writing.writing (known .short) (was-fine (known .told) fine) (subst₂ (λ (i : List Bool) (x : Put). Puts bytes start i (putOutcome x) after) image-same e puts))
 
 -- ---- before a heading is chosen
 
-module _ (bytes : List ℕ) (start : ℕ) (f : Family) (code parameter kind : ℕ) (vs : List ℤ) where
+module _ {bytes : List ℕ} {start : ℕ} {f : Family} {code parameter kind : ℕ} {vs : List ℤ} where
   pub buffer-long : longestBuffer < length bytes → Writes bytes start f code parameter kind vs (refuses 12 0) bytes
   buffer-long h = Writing.outside (λ s. omega (arith, s .small))
 
   pub start-past : 8 * length bytes < start → Writes bytes start f code parameter kind vs (refuses 12 0) bytes
   start-past h = Writing.outside (λ s. omega (arith, s .inside))
 
-  pub none-chosen : Start bytes start → ((c : Records.Code) (t : Kind) → Chosen f code parameter kind c t → ⊥) → Writes bytes start f code parameter kind vs (refuses 4 0) bytes
-  none-chosen s x = Writing.unknown s x
+  pub none-chosen : {r : Choice} → Start bytes start → Chooses f code parameter kind r → r ≡ OfHeading.Unknown → Writes bytes start f code parameter kind vs (refuses 4 0) bytes
+  none-chosen s x e = Writing.unknown s (was-unknown x e)
 
-  -- ---- two answers that satisfy the contract are equal
+-- ---- two answers that satisfy the contract are equal
+
+module _ (bytes : List ℕ) (start : ℕ) (f : Family) (code parameter kind : ℕ) (vs : List ℤ) where
   pub write-one : (a b : Wrote) (after after′ : List ℕ) → Writes bytes start f code parameter kind vs (outcomeOf a) after → Writes bytes start f code parameter kind vs (outcomeOf b) after′
       → (a ≡ b) × (after ≡ after′)
   write-one a b after after′ x y =
