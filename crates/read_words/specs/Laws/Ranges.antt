@@ -3,7 +3,7 @@ use mathlib.Core.Path.{_≡_, refl, sym, ap, ap₂, _∙_, subst, subst₂}
 use mathlib.Core.Logic.{_⊎_, inl, inr}
 use mathlib.Core.Bool.{Bool, false}
 use mathlib.Core.List.{List, [], _∷_, _++_, append-assoc}
-use Prim.Native.Nat.{ℕ, suc, _+_, _-_, _*_, _/_, _^_, _≤_, _<_}
+use Prim.Native.Nat.{ℕ, suc, _+_, _-_, _*_, _/_, _^_, _≤_, _<_, min}
 use native.Mathlib.Nat.{mod-eq-of-lt, mul-div-cancel, le-div-iff-mul-le, le-antisymm, le-refl, lt-of-le-of-lt, div-one, div-eq-of-lt, sub-zero}
 use native.Mathlib.Decide.{decLe, decLt}
 use native.Mathlib.Omega.{arith}
@@ -16,6 +16,7 @@ use Rattle.layout.specs.Dead.{Dies}
 use Rattle.layout.specs.Laws.Bits.{val, val-lt, val-append, val-inBits, inBits-val, inBits-split, inBits-one, length-inBits}
 use Rattle.bits.specs.Cursor.{Within, left, onward, Taken}
 use Rattle.bits.specs.Laws.Cursor.{length-left, left-onward}
+use Rattle.bits.specs.declared.BitPos.{BitPos}
 use Rattle.bits.specs.declared.Cursor.{Cursor}
 use Rattle.read_words.specs.Told.{ToldWord, took, cut, bad, Among, Live}
 use Rattle.read_words.specs.declared.Read.the-variants.{Took, Cut, Bad}
@@ -105,7 +106,7 @@ module _ (v w n lo hi r : ℕ) where
       record { upto = le-refl w; low = subst (λ (i : ℕ). lo / 2 ^ (n - i) ≤ v / 2 ^ (w - i)) e (a .1); high = subst (λ (i : ℕ). v / 2 ^ (w - i) ≤ hi / 2 ^ (n - i)) e (a .2); dead = λ k. absurd (omega arith) }
 
 -- where all w bits together are dead, not all of them live
-pub live-less : (v w n lo hi r : ℕ) → Live v w n lo hi r → (v < lo / 2 ^ (n - w)) ⊎ (hi / 2 ^ (n - w) < v) → r < w
+live-less : (v w n lo hi r : ℕ) → Live v w n lo hi r → (v < lo / 2 ^ (n - w)) ⊎ (hi / 2 ^ (n - w) < v) → r < w
 live-less v w n lo hi r a d = go (decLt r w)
   where
     z : w - w ≡ 0
@@ -128,37 +129,51 @@ live-less v w n lo hi r a d = go (decLt r w)
 
 -- ---- the same at a cursor
 
-module _ (s : List ℕ) (c : Cursor) (h : Within c (length s)) (n lo hi : ℕ) (o : lo ≤ hi) (b : hi < 2 ^ n) (w v : ℕ) (d : Cursor) (t : Taken (fixed w) s c v d) (k : w ≤ n) where
+-- of the n bits of a field those that are left, w of them, were read, and stand for v
+pub record FieldRead (s : List ℕ) (c : Cursor) (n lo hi w v : ℕ) (d : Cursor) : Type 0 where
+  pub within : Within c (length s)
+  pub order : lo ≤ hi
+  pub high : hi < 2 ^ n
+  pub width : w ≡ min n (c .stop .0 - c .at .0)
+  pub taken : Taken (fixed w) s c v d
+
+module _ {s : List ℕ} {c : Cursor} {n lo hi w v : ℕ} {d : Cursor} (read : FieldRead s c n lo hi w v d) where
   -- the w bits that were read
   seen : take w (left c s) ≡ inBits w v
-  seen = ap (take w) (t .takes .front) ∙ take-at (inBits w v) (left d s) w (length-inBits w v)
+  seen = ap (take w) (read .taken .takes .front) ∙ take-at (inBits w v) (left d s) w (length-inBits w v)
 
   there : w ≤ length (left c s)
-  there = let e = ap length (t .takes .front) ∙ length-append (inBits w v) (left d s) in let f = length-inBits w v in omega arith
+  there = let e = ap length (read .taken .takes .front) ∙ length-append (inBits w v) (left d s) in let f = length-inBits w v in omega arith
 
   val-seen : val (take w (left c s)) ≡ v
-  val-seen = ap val seen ∙ val-inBits w v ∙ mod-eq-of-lt (t .takes .valid)
+  val-seen = ap val seen ∙ val-inBits w v ∙ mod-eq-of-lt (read .taken .takes .valid)
 
-  pub range-took : w ≡ n → lo ≤ v → v ≤ hi → ToldWord (Among n lo hi) (inBits n) s c (Took v d)
-  range-took e f g =
-      took (record { takes = record { valid = (f, g, subst (λ (i : ℕ). v < 2 ^ i) e (t .takes .valid)); front = t .takes .front ∙ ap (λ (i : ℕ). inBits i v ++ left d s) e }; within = t .within; stop = t .stop })
+  pub range-took : n - w ≡ 0 → lo / 2 ^ (n - w) ≤ v → v ≤ hi / 2 ^ (n - w) → ToldWord (Among n lo hi) (inBits n) s c (Took v d)
+  range-took z low high =
+      let e : w ≡ n = omega (arith, read .width) in
+      let t = read .taken in
+      let among : Among n lo hi v = (rw (z, div-one) at low, rw (z, div-one) at high, subst (λ (i : ℕ). v < 2 ^ i) e (t .takes .valid)) in
+      took (record { takes = record { valid = among; front = t .takes .front ∙ ap (λ (i : ℕ). inBits i v ++ left d s) e }; within = t .within; stop = t .stop })
 
-  pub range-cut : w < n → w ≡ c .stop .0 - c .at .0 → lo / 2 ^ (n - w) ≤ v → v ≤ hi / 2 ^ (n - w) → ToldWord (Among n lo hi) (inBits n) s c Cut
-  range-cut e f x y =
+  pub range-cut : (n - w ≡ 0 → ⊥) → lo / 2 ^ (n - w) ≤ v → v ≤ hi / 2 ^ (n - w) → ToldWord (Among n lo hi) (inBits n) s c Cut
+  range-cut some x y =
+      let e : w < n = omega (arith, some, read .width) in
+      let f : w ≡ c .stop .0 - c .at .0 = omega (arith, read .width) in
       let m : ℕ = n - w - 1 in
       let q : n - w ≡ suc m = omega arith in
-      let l : left c s ≡ inBits w v = sym (take-all w (left c s) (omega (arith, length-left s c h))) ∙ seen in
-      let z : val (inBits w v) ≡ v = val-inBits w v ∙ mod-eq-of-lt (t .takes .valid) in
+      let l : left c s ≡ inBits w v = sym (take-all w (left c s) (omega (arith, length-left s c (read .within)))) ∙ seen in
+      let z : val (inBits w v) ≡ v = val-inBits w v ∙ mod-eq-of-lt (read .taken .takes .valid) in
       let g : length (inBits w v) + suc m ≡ n = ap (λ (i : ℕ). i + suc m) (length-inBits w v) ∙ omega arith in
-      cut (subst (Stops (Among n lo hi) (inBits n)) (sym l) (range-stops n lo hi o b (inBits w v) m g (subst₂ (λ (i j : ℕ). lo / 2 ^ i ≤ j) q (sym z) x) (subst₂ (λ (i j : ℕ). j ≤ hi / 2 ^ i) q (sym z) y)))
+      cut (subst (Stops (Among n lo hi) (inBits n)) (sym l) (range-stops n lo hi (read .order) (read .high) (inBits w v) m g (subst₂ (λ (i j : ℕ). lo / 2 ^ i ≤ j) q (sym z) x) (subst₂ (λ (i j : ℕ). j ≤ hi / 2 ^ i) q (sym z) y)))
 
   -- the first r of them live, and one more does not
-  pub range-bad : (r : ℕ) → r < w → Live v w n lo hi r → ToldWord (Among n lo hi) (inBits n) s c (Bad (onward c r .at))
-  range-bad r l a =
+  dead-after : (r : ℕ) → r < w → Live v w n lo hi r → ToldWord (Among n lo hi) (inBits n) s c (Bad (onward c r .at))
+  dead-after r l a =
+      let k : w ≤ n = omega (arith, read .width) in
       let m : ℕ = n - r - 1 in
       let q : n - r ≡ suc m = omega arith in
       let x : List Bool = take r (left c s) in
-      let len = length-left s c h in
+      let len = length-left s c (read .within) in
       let i : r < length (left c s) = omega (arith, there) in
       let y : Bool = getD (left c s) r false in
       let e : drop r (left c s) ≡ y ∷ drop (suc r) (left c s) = drop-cons (left c s) r false i in
@@ -170,4 +185,7 @@ module _ (s : List ℕ) (c : Cursor) (h : Within c (length s)) (n lo hi : ℕ) (
       let ll : lo / 2 ^ suc m ≤ val x = subst₂ (λ (z u : ℕ). lo / 2 ^ z ≤ u) q (sym g) (a .low) in
       let lh : val x ≤ hi / 2 ^ suc m = subst₂ (λ (z u : ℕ). u ≤ hi / 2 ^ z) q (sym g) (a .high) in
       let dd : (val (x ++ y ∷ []) < lo / 2 ^ m) ⊎ (hi / 2 ^ m < val (x ++ y ∷ [])) = subst (λ (z : ℕ). (z < lo / 2 ^ m) ⊎ (hi / 2 ^ m < z)) (sym j) (a .dead l) in
-      bad {p = onward c r .at} (subst₂ (Dies (Among n lo hi) (inBits n)) (sym f) (sym (left-onward s c h r ∙ e)) (range-dies n lo hi o b x (drop (suc r) (left c s)) y m p ll lh dd)) (omega (arith, h .order))
+      bad {p = onward c r .at} (subst₂ (Dies (Among n lo hi) (inBits n)) (sym f) (sym (left-onward s c (read .within) r ∙ e)) (range-dies n lo hi (read .order) (read .high) x (drop (suc r) (left c s)) y m p ll lh dd)) (omega (arith, read .within .order))
+
+  pub range-bad : {r : ℕ} {p : BitPos} → (v < lo / 2 ^ (n - w)) ⊎ (hi / 2 ^ (n - w) < v) → Live v w n lo hi r → p ≡ onward c r .at → ToldWord (Among n lo hi) (inBits n) s c (Bad p)
+  range-bad {r} outside a e = rw e (dead-after r (live-less v w n lo hi r a outside) a)
