@@ -204,41 +204,41 @@ byte-before k y = ap (λ (x : List Bool). x ++ inBits k y) (inBits-mod 8 (y / 2 
 two-bytes : (y : ℕ) → inBits 8 (y / 2 ^ 8) ++ inBits 8 (y % 2 ^ 8) ≡ inBits 16 y
 two-bytes y = ap (λ (x : List Bool). inBits 8 (y / 2 ^ 8) ++ x) (inBits-mod 8 y) ∙ sym (inBits-split 8 8 y)
 
-module _ (n : ℕ) where
-  pub group-seen : 0 < n / 2 ^ 56 → n / 2 ^ 56 < 128 → Word (n / 2 ^ 56) × (variableByte (n / 2 ^ 56) ≡ inBits 8 (n / 2 ^ 56))
-  group-seen h l =
+module _ {n r : ℕ} where
+  pub group-seen : 0 < n / 2 ^ 56 → n / 2 ^ 56 < 128 → r ≡ n / 2 ^ 56 * 64 + 8 → Glimpsed variableByte n r
+  group-seen h l e =
       let g : ℕ = n / 2 ^ 56 in
       let v : Word g = (h, omega arith) in
-      (v, of-groups g 0 v h (omega arith) ∙ last-group g g l (omega arith))
+      seen g 8 v (omega arith) (of-groups g 0 v h (omega arith) ∙ last-group g g l (omega arith)) e
 
-  pub two-seen : (w : ℕ) → 128 < n / 2 ^ 56 → n / 2 ^ 56 < 256 → n / 2 ^ 48 % 256 < 128 → w ≡ (n / 2 ^ 56 - 128) * 128 + n / 2 ^ 48 % 256
-      → Word w × (variableByte w ≡ inBits 16 (n / 2 ^ 48))
-  two-seen w h f l e =
-      let (v, i) = two-groups w (n / 2 ^ 56) (n / 2 ^ 48 % 256) h f l e in
-      (v, i ∙ ap (λ (x : ℕ). inBits 8 x ++ inBits 8 (n / 2 ^ 48 % 256)) (sym (shr-shr n 48 8)) ∙ two-bytes (n / 2 ^ 48))
+  -- the first group is one that others follow
+  module _ (h : (128 < n / 2 ^ 56) × (n / 2 ^ 56 < 256)) where
+    pub two-seen : n / 2 ^ 48 % 256 < 128 → r ≡ ((n / 2 ^ 56 - 128) * 128 + n / 2 ^ 48 % 256) * 64 + 16 → Glimpsed variableByte n r
+    two-seen l e =
+        let (v, i) = two-groups _ (n / 2 ^ 56) (n / 2 ^ 48 % 256) (h .0) (h .1) l refl in
+        seen _ 16 v (omega arith) (i ∙ ap (λ (x : ℕ). inBits 8 x ++ inBits 8 (n / 2 ^ 48 % 256)) (sym (shr-shr n 48 8)) ∙ two-bytes (n / 2 ^ 48)) e
 
-  pub three-seen : (w : ℕ) → 128 < n / 2 ^ 56 → n / 2 ^ 56 < 256 → 128 ≤ n / 2 ^ 48 % 256 → n / 2 ^ 40 % 256 < 128
-      → w ≡ ((n / 2 ^ 56 - 128) * 128 + (n / 2 ^ 48 % 256 - 128)) * 128 + n / 2 ^ 40 % 256 → Word w × (variableByte w ≡ inBits 24 (n / 2 ^ 40))
-  three-seen w h f m l e =
-      let y : ℕ = n / 2 ^ 40 in
-      let (v, i) = three-groups w (n / 2 ^ 56) (n / 2 ^ 48 % 256) (y % 256) h f m (mod-lt (n / 2 ^ 48) (omega arith)) l e in (
-        v,
+    pub three-seen : 128 ≤ n / 2 ^ 48 % 256 → n / 2 ^ 40 % 256 < 128 → r ≡ (((n / 2 ^ 56 - 128) * 128 + (n / 2 ^ 48 % 256 - 128)) * 128 + n / 2 ^ 40 % 256) * 64 + 24 → Glimpsed variableByte n r
+    three-seen m l e =
+        let y : ℕ = n / 2 ^ 40 in
+        let (v, i) = three-groups _ (n / 2 ^ 56) (n / 2 ^ 48 % 256) (y % 256) (h .0) (h .1) m (mod-lt (n / 2 ^ 48) (omega arith)) l refl in
+        let whole =
         i
-            ∙ ap₂ (λ (a b : ℕ). inBits 8 a ++ (inBits 8 (b % 256) ++ inBits 8 (y % 256))) (sym (shr-shr n 40 16)) (sym (shr-shr n 40 8))
-            ∙ ap (λ (x : List Bool). inBits 8 (y / 2 ^ 16) ++ x) (ap (λ (x : List Bool). x ++ inBits 8 (y % 256)) (inBits-mod 8 (y / 2 ^ 8)) ∙ two-bytes y)
-            ∙ sym (inBits-split 8 16 y),
-      )
+        ∙ ap₂ (λ (a b : ℕ). inBits 8 a ++ (inBits 8 (b % 256) ++ inBits 8 (y % 256))) (sym (shr-shr n 40 16)) (sym (shr-shr n 40 8))
+        ∙ ap (λ (x : List Bool). inBits 8 (y / 2 ^ 16) ++ x) (ap (λ (x : List Bool). x ++ inBits 8 (y % 256)) (inBits-mod 8 (y / 2 ^ 8)) ∙ two-bytes y)
+        ∙ sym (inBits-split 8 16 y) in
+        seen _ 24 v (omega arith) whole e
 
-  pub four-seen : (w : ℕ) → 128 < n / 2 ^ 56 → n / 2 ^ 56 < 256 → 128 ≤ n / 2 ^ 48 % 256 → 128 ≤ n / 2 ^ 40 % 256 → n / 2 ^ 32 % 256 < 128
-      → w ≡ (((n / 2 ^ 56 - 128) * 128 + (n / 2 ^ 48 % 256 - 128)) * 128 + (n / 2 ^ 40 % 256 - 128)) * 128 + n / 2 ^ 32 % 256 → Word w × (variableByte w ≡ inBits 32 (n / 2 ^ 32))
-  four-seen w h f m p l e =
-      let y : ℕ = n / 2 ^ 32 in
-      let (v, i) = four-groups w (n / 2 ^ 56) (n / 2 ^ 48 % 256) (n / 2 ^ 40 % 256) (y % 256) h f m (mod-lt (n / 2 ^ 48) (omega arith)) p (mod-lt (n / 2 ^ 40) (omega arith)) l e in
-      let last : inBits 8 (n / 2 ^ 40 % 256) ++ inBits 8 (y % 256) ≡ inBits 16 y =
-      ap₂ (λ (a : ℕ) (x : List Bool). inBits 8 (a % 256) ++ x) (sym (shr-shr n 32 8)) (inBits-mod 8 y) ∙ byte-before 8 y in
-      let three : inBits 8 (n / 2 ^ 48 % 256) ++ (inBits 8 (n / 2 ^ 40 % 256) ++ inBits 8 (y % 256)) ≡ inBits 24 y =
-      ap₂ (λ (a : ℕ) (x : List Bool). inBits 8 (a % 256) ++ x) (sym (shr-shr n 32 16)) last ∙ byte-before 16 y in
-      (v, i ∙ ap₂ (λ (a : ℕ) (x : List Bool). inBits 8 a ++ x) (sym (shr-shr n 32 24)) three ∙ sym (inBits-split 8 24 y))
+    pub four-seen : 128 ≤ n / 2 ^ 48 % 256 → 128 ≤ n / 2 ^ 40 % 256 → n / 2 ^ 32 % 256 < 128
+        → r ≡ ((((n / 2 ^ 56 - 128) * 128 + (n / 2 ^ 48 % 256 - 128)) * 128 + (n / 2 ^ 40 % 256 - 128)) * 128 + n / 2 ^ 32 % 256) * 64 + 32 → Glimpsed variableByte n r
+    four-seen m p l e =
+        let y : ℕ = n / 2 ^ 32 in
+        let (v, i) = four-groups _ (n / 2 ^ 56) (n / 2 ^ 48 % 256) (n / 2 ^ 40 % 256) (y % 256) (h .0) (h .1) m (mod-lt (n / 2 ^ 48) (omega arith)) p (mod-lt (n / 2 ^ 40) (omega arith)) l refl in
+        let last : inBits 8 (n / 2 ^ 40 % 256) ++ inBits 8 (y % 256) ≡ inBits 16 y =
+        ap₂ (λ (a : ℕ) (x : List Bool). inBits 8 (a % 256) ++ x) (sym (shr-shr n 32 8)) (inBits-mod 8 y) ∙ byte-before 8 y in
+        let three : inBits 8 (n / 2 ^ 48 % 256) ++ (inBits 8 (n / 2 ^ 40 % 256) ++ inBits 8 (y % 256)) ≡ inBits 24 y =
+        ap₂ (λ (a : ℕ) (x : List Bool). inBits 8 (a % 256) ++ x) (sym (shr-shr n 32 16)) last ∙ byte-before 16 y in
+        seen _ 32 v (omega arith) (i ∙ ap₂ (λ (a : ℕ) (x : List Bool). inBits 8 a ++ x) (sym (shr-shr n 32 24)) three ∙ sym (inBits-split 8 24 y)) e
 
 -- ---- delta
 
