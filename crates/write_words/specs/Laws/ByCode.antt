@@ -9,7 +9,7 @@ use Rattle.pen.specs.Laws.Pen.{room-as, drawn-as}
 use Rattle.headings.specs.declared.bodies.Words.{Words}
 use Rattle.headings.specs.Bodies.{imageBy}
 
-module _ (code given : Words) (e : code ≡ given) (w : ℕ) where
+module _ {code given : Words} (e : code ≡ given) (w : ℕ) where
   pub counted : (r : ℕ) → r ≡ length (imageBy given w) → r ≡ length (imageBy code w)
   counted r h = subst (λ (c : Words). r ≡ length (imageBy c w)) (sym e) h
 

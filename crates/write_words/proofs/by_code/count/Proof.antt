@@ -1,6 +1,5 @@
 use native.Mathlib.Omega.{arith}
 use borrow.Author.Needs.{needs}
-use Rattle.headings.specs.declared.bodies.Words.the-variants.{Gamma, Delta, Rice, VariableByte}
 use Rattle.headings.specs.Laws.Bodies.{rice-known}
 use Rattle.write_words.specs.Laws.ByCode.{counted}
 use Rattle.write_words.proofs.by_code.count.Statement.{statement}
@@ -34,16 +33,16 @@ count-requires-4 : tie.Need-count-requires-4
 count-requires-4 c κs = search needs
 
 returns : tie.Need-returns
-returns c = (counted (c .before .before .before .args .code) Gamma (c .before .enum-told .given .1) _ _ (c .count .ensures .0), omega arith)
+returns c = (counted (c .before .enum-told .given .1) _ _ (c .count .ensures .0), omega arith)
 
 returns-2 : tie.Need-returns-2
-returns-2 c = (counted (c .before .before .before .args .code) Delta (c .before .enum-told2 .given .1) _ _ (c .count2 .ensures .0), omega arith)
+returns-2 c = (counted (c .before .enum-told2 .given .1) _ _ (c .count2 .ensures .0), omega arith)
 
 returns-3 : tie.Need-returns-3
-returns-3 c = (counted (c .before .before .before .before .args .code) (Rice (c .before .before .code .given .0 .0)) (c .before .before .code .given .1) _ _ (c .count3 .ensures .0), omega arith)
+returns-3 c = (counted (c .before .before .code .given .1) _ _ (c .count3 .ensures .0), omega arith)
 
 returns-4 : tie.Need-returns-4
-returns-4 c = (counted (c .before .before .before .args .code) VariableByte (c .before .enum-told3 .given .1) _ _ (c .count4 .ensures .0), omega arith)
+returns-4 c = (counted (c .before .enum-told3 .given .1) _ _ (c .count4 .ensures .0), omega arith)
 
 pub count-spec : {M : Type 1} → statement M
 count-spec =
