@@ -8,8 +8,10 @@ use native.Mathlib.Omega.{arith}
 use lib.IntN.{ℤ}
 use lib.Arith.{digits-lt}
 use lib.Pow.{pow-add, pow-mono}
-use lib.ListN.{length, length-append}
-use Rattle.layout.specs.Bits.{Bytes, inBits, bitsOf}
+use lib.ListN.{length, getD, length-append}
+use mir.Syntax.{w8}
+use mir.Val.{Fits}
+use Rattle.layout.specs.Bits.{inBits, bitsOf}
 use Rattle.layout.specs.Laws.Bits.{length-inBits, inBits-cat}
 use Rattle.format.specs.Limits.{largestParameter}
 use Rattle.format.specs.Codes.{gamma}
@@ -19,9 +21,10 @@ use Rattle.bits.specs.declared.BitPos.{BitPos}
 use Rattle.pen.specs.declared.Pen.{Pen}
 use Rattle.pen.specs.Pen.{inked, Opened, Drawn}
 use Rattle.pen.specs.Laws.Pen.{drawn-both, closed}
+use Rattle.pen.specs.Laws.Bytes.{all-bytes}
 use Rattle.write_records.specs.Written.{Written}
-use Rattle.format.specs.Answers.{gives}
-use Rattle.format.specs.Writing.{Puts, done}
+use Rattle.format.specs.Answers.{refuses, gives}
+use Rattle.format.specs.Writing.{Puts, full, done}
 use Rattle.headings.specs.declared.Code.{Code}
 use Rattle.headings.specs.declared.Code.the-variants.{Gamma, Delta, Rice, VariableByte, Interpolative}
 use Rattle.headings.specs.declared.Heading.{Heading}
@@ -106,6 +109,11 @@ record-written h vs n e o a b c d =
     let x = closed o (drawn-both (o .within) f a b) c in
     record { bits = x .0; told = d ∙ x .1 }
 
-pub puts-done : {new : List Bool} {before after : List ℕ} {at next : BitPos} → Written new before at after next → Bytes after → length new ≤ 8 * length before - at .0
-    → Puts before (at .0) new (gives (next .0)) after
-puts-done {new} {before} {after} {at} w b r = subst (λ (n : ℕ). Puts before (at .0) new (gives n) after) (sym (w .told)) (done r b (w .bits))
+-- ---- put where there is room: the bits that are left were compared with those that were counted
+
+module _ {new : List Bool} {before : List ℕ} {at : BitPos} {bit count : ℕ} (e : bit ≡ at .0) (n : count ≡ length new) where
+  pub puts-full : 8 * length before - bit < count → Puts before (at .0) new (refuses 5 0) before
+  puts-full less = full (omega arith)
+
+  pub puts-done : {after : List ℕ} {next : BitPos} → count ≤ 8 * length before - bit → Written new before at after next → ((i : ℕ) → Fits w8 (getD after i 0)) → Puts before (at .0) new (gives (next .0)) after
+  puts-done {after} enough w b = subst (λ (k : ℕ). Puts before (at .0) new (gives k) after) (sym (w .told)) (done (omega arith) (all-bytes after b) (w .bits))

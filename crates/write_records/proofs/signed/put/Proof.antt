@@ -1,7 +1,4 @@
-use Rattle.format.specs.Writing.{full}
-use Rattle.pen.specs.Laws.Bytes.{all-bytes}
-use Rattle.write_records.specs.Laws.Images.{puts-done}
-use native.Mathlib.Omega.{arith}
+use Rattle.write_records.specs.Laws.Images.{puts-full, puts-done}
 use borrow.Author.Needs.{needs}
 use Rattle.write_records.proofs.signed.put.Statement.{statement}
 use Rattle.write_records.proofs.signed.put.Tie as tie
@@ -19,7 +16,7 @@ count-requires : tie.Need-count-requires
 count-requires c κs = search needs
 
 returns : tie.Need-returns
-returns c = full (omega (arith, c .if1 .taken, c .before .count .ensures .0, c .before .before .bit .ensures))
+returns c = puts-full (c .before .before .bit .ensures) (c .before .count .ensures .0) (c .if1 .taken)
 
 write-requires : tie.Need-write-requires
 write-requires c κs = search needs
@@ -29,8 +26,8 @@ same-length c = search needs
 
 returns-2 : tie.Need-returns-2
 returns-2 c =
-    let u = c .before .before .before .before in
-    puts-done (c .before .before .write .ensures) (all-bytes (c .before .before .write .last .0) (c .slice-known2 .given)) (omega (arith, u .if1 .left, u .before .count .ensures .0, u .before .before .bit .ensures))
+    let room = c .before .before .before .before in
+    puts-done (room .before .before .bit .ensures) (room .before .count .ensures .0) (room .if1 .left) (c .before .before .write .ensures) (c .slice-known2 .given)
 
 pub put-spec : {M : Type 1} → statement M
 put-spec =
