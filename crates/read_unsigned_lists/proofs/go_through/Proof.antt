@@ -70,9 +70,17 @@ loop-again c =
     let ns = l .inv .2 in
     let x = g .0 .0 in
     let p = c .before .before .put .ensures in
-    let lent = c .before .before .before .before .before .before .before .before .before .before .before .before .before .before .args .list .now in
-    let many = sym (length-map ns pos) ∙ l .inv .3 .count in
-    (omega arith, omega arith, ns ++ x ∷ [], subst (Reading _ _ _ _ _ _ _ _) (sym (map-append pos ns (x ∷ []))) r, kept-more 0 ns many (k .0) (k .1) (l .inv .4), counted-more (c .before .before .before .before .before .before .before .before .before .before .before .before .before .before .args .sought) ns x (l .inv .5) (c .before .before .before .before .counted .ensures .0), p .long ∙ l .inv .6, λ h. p .stored (omega (arith, h, l .inv .6)) ∙ ap (λ (y : List ℕ). set y (l .i) x) (l .inv .7 h) ∙ stored-more 0 ns lent x many (omega (arith, h)))
+    let asked = c .before .before .before .before .before .before .before .before .before .before .before .before .before .before .args in
+    let many = sym (length-map ns pos) ∙ l .inv .3 .count in (
+      omega arith,
+      omega arith,
+      ns ++ x ∷ [],
+      subst (Reading _ _ _ _ _ _ _ _) (sym (map-append pos ns (x ∷ []))) r,
+      kept-more 0 ns many (k .0) (k .1) (l .inv .4),
+      counted-more (asked .sought) ns x (l .inv .5) (c .before .before .before .before .counted .ensures .0),
+      p .long ∙ l .inv .6,
+      λ h. p .stored (omega (arith, h, l .inv .6)) ∙ ap (λ (y : List ℕ). set y (l .i) x) (l .inv .7 h) ∙ stored-more 0 ns (asked .list .now) x many (omega (arith, h)),
+    )
 
 enum-known-m : tie.Need-enum-known-m Inv-loop μ-loop
 enum-known-m c = search needs
