@@ -1,13 +1,14 @@
-use Rattle.lists.specs.Laws.Tests.{holds-if, fails-if}
-use Rattle.read_streams.specs.Laws.Streams.{was-after, was-not-passed}
-use Rattle.read_headings.specs.Laws.Same.{headed-no-end}
 use Prim.Native.Nat.{_+_, _-_, _<_}
-use Rattle.reading.specs.Refusals.{refusalNumber}
-use Rattle.read_headings.specs.Laws.Told.{was-body, was-end, was-no}
-use Rattle.read_streams.specs.Streams.{Passing}
-use Rattle.read_streams.specs.Laws.Streams.{passing-none, passing-more, stream-no, stream-unclean, stream-ends}
-use borrow.Author.Needs.{needs}
 use native.Mathlib.Omega.{arith}
+use borrow.Author.Needs.{needs}
+use Rattle.format.specs.Records.{anyone}
+use Rattle.lists.specs.Laws.Tests.{holds-if, fails-if}
+use Rattle.reading.specs.Refusals.{refusalNumber}
+use Rattle.read_headings.specs.Told.{Headed}
+use Rattle.read_headings.specs.Laws.Told.{was-body, was-end, was-no}
+use Rattle.read_headings.specs.Laws.Same.{headed-no-end}
+use Rattle.read_streams.specs.Streams.{Passing}
+use Rattle.read_streams.specs.Laws.Streams.{was-after, was-not-passed, passing-none, passing-more, stream-no, stream-unclean, stream-ends}
 use Rattle.read_streams.proofs.check.Statement.{statement}
 use Rattle.read_streams.proofs.check.Tie as tie
 
@@ -17,12 +18,21 @@ Inv-loop s c₀ records₀ values₀ c records values = Passing s c₀ c records
 abbrev μ-loop : tie.MeasureT-loop
 μ-loop s c₀ records₀ values₀ c records values = c .stop .0 - c .at .0
 
+abbrev at-loop : tie.After-h Inv-loop μ-loop → tie.At-loop Inv-loop μ-loop
+at-loop h = h .before .before .before
+
+-- the heading that was read
+headed : (h : tie.After-h Inv-loop μ-loop) → let l = at-loop h in let g = h .h .given .0 in
+    Headed anyone (l .before .before .args .s .now) (l .loop .c) (g .0) (g .1 .0) (g .1 .1 .0)
+headed h = was-body (h .before .before .read .ensures) (h .h .given .1)
+
 -- a record that was passed is one more, and what is left of the bits is less
-more : (e : tie.After-e Inv-loop μ-loop) → let l = e .before .before .before .before .before .before .before .loop in let g = e .before .before .before .before .h .given .0 in let d = e .e .given .0 .0 in
-    Passing (e .before .before .before .before .before .before .before .before .before .args .s .now) (e .before .before .before .before .before .before .before .before .before .args .start) d (l .records + 1) (l .values + g .1 .0) × (d .stop .0 - d .at .0 < l .c .stop .0 - l .c .at .0)
+more : (e : tie.After-e Inv-loop μ-loop) → let h = e .before .before .before .before in let l = at-loop h in let d = e .e .given .0 .0 in
+    Passing (l .before .before .args .s .now) (l .before .before .args .start) d (l .loop .records + 1) (l .loop .values + h .h .given .0 .1 .0)
+    × (d .stop .0 - d .at .0 < l .loop .c .stop .0 - l .loop .c .at .0)
 more e =
-    let k = was-body (e .before .before .before .before .before .before .read .ensures) (e .before .before .before .before .h .given .1) in
-    passing-more (e .before .before .before .before .before .before .before .loop .inv) k (was-after (e .before .before .pass .ensures) (e .e .given .1) .1)
+    let h = e .before .before .before .before in
+    passing-more (at-loop h .loop .inv) (headed h) (was-after (e .before .before .pass .ensures) (e .e .given .1) .1)
 
 loop-holds : tie.Need-loop-holds Inv-loop μ-loop
 loop-holds c =
@@ -37,7 +47,7 @@ enum-known-h c = search needs
 
 pass-requires : tie.Need-pass-requires Inv-loop μ-loop
 pass-requires c κs =
-    let k = was-body (c .before .before .before .read .ensures) (c .before .h .given .1) in
+    let k = headed (c .before) in
     (k .reached .within, record { parameter = k .legal .parameter; instants = k .legal .instants }, k .legal .count)
 
 enum-known-e : tie.Need-enum-known-e Inv-loop μ-loop
@@ -45,16 +55,16 @@ enum-known-e c = search needs
 
 add-records : tie.Need-add-records Inv-loop μ-loop
 add-records c =
-    let i = c .before .before .before .before .before .before .before .before .loop .inv in
+    let i = at-loop (c .before .before .before .before .before) .loop .inv in
     let w = i .within in
     omega (arith, i .few, w .order, w .inside, w .small)
 
 add-values : tie.Need-add-values Inv-loop μ-loop
 add-values c =
-    let i = c .before .before .before .before .before .before .before .before .loop .inv in
+    let h = c .before .before .before .before .before in
+    let i = at-loop h .loop .inv in
     let w = i .within in
-    let k = was-body (c .before .before .before .before .before .before .before .read .ensures) (c .before .before .before .before .before .h .given .1) in
-    omega (arith, i .few, i .small, w .order, w .inside, w .small, k .legal .count)
+    omega (arith, i .few, i .small, w .order, w .inside, w .small, headed h .legal .count)
 
 loop-less : tie.Need-loop-less Inv-loop μ-loop
 loop-less c =
@@ -69,9 +79,10 @@ enum-known-m c = search needs
 
 returns : tie.Need-returns Inv-loop μ-loop
 returns c =
-    let k = was-body (c .before .before .before .before .before .before .before .read .ensures) (c .before .before .before .before .before .h .given .1) in
+    let h = c .before .before .before .before .before in
     let m = c .before .m .given .0 in
-    stream-no (c .before .before .before .before .before .before .before .before .loop .inv) (headed-no-end k) (k .reached .no (refusalNumber (m .0)) (m .1 .0) (was-not-passed (c .before .before .before .pass .ensures) (c .before .m .given .1)))
+    let refused = was-not-passed (c .before .before .before .pass .ensures) (c .before .m .given .1) in
+    stream-no (at-loop h .loop .inv) (headed-no-end (headed h)) (headed h .reached .no (refusalNumber (m .0)) (m .1 .0) refused)
 
 enum-known-d : tie.Need-enum-known-d Inv-loop μ-loop
 enum-known-d c = search needs
@@ -85,11 +96,14 @@ at-requires c κs = search needs
 
 returns-2 : tie.Need-returns-2 Inv-loop μ-loop
 returns-2 c =
-    stream-unclean (c .before .before .before .before .before .before .before .loop .inv) (was-end (c .before .before .before .before .before .before .read .ensures) (c .before .before .before .before .d .given .1)) (fails-if (c .before .before .unclean .ensures) (c .before .if1 .taken)) (c .at .ensures)
+    let mark = c .before .before .before .before in
+    let ended = was-end (mark .before .before .read .ensures) (mark .d .given .1) in
+    stream-unclean (mark .before .before .before .loop .inv) ended (fails-if (c .before .before .unclean .ensures) (c .before .if1 .taken)) (c .at .ensures)
 
 returns-3 : tie.Need-returns-3 Inv-loop μ-loop
 returns-3 c =
-    stream-ends (c .before .before .before .before .before .before .loop .inv) (was-end (c .before .before .before .before .before .read .ensures) (c .before .before .before .d .given .1)) (holds-if (c .before .unclean .ensures) (c .if1 .left))
+    let mark = c .before .before .before in
+    stream-ends (mark .before .before .before .loop .inv) (was-end (mark .before .before .read .ensures) (mark .d .given .1)) (holds-if (c .before .unclean .ensures) (c .if1 .left))
 
 enum-known-m-2 : tie.Need-enum-known-m-2 Inv-loop μ-loop
 enum-known-m-2 c = search needs
