@@ -1,5 +1,5 @@
-use Rattle.reading.specs.Laws.Places.{was-placed, was-outside, placed-within}
-use Rattle.read_entries.specs.Laws.Readers.{was-kind, was-stranger, outside-entry, stranger-entry, looks-up-placed}
+use Rattle.reading.specs.Laws.Places.{placed-within}
+use Rattle.read_entries.specs.Laws.Readers.{was-kind, outside-entry, stranger-entry, looks-up-placed}
 use borrow.Author.Needs.{needs}
 use Rattle.read_entries.proofs.find.look_up.Statement.{statement}
 use Rattle.read_entries.proofs.find.look_up.Tie as tie
@@ -18,7 +18,8 @@ enum-known-t c = search needs
 
 look-up-requires : tie.Need-look-up-requires
 look-up-requires c κs =
-    (placed-within (c .before .before .before .before .before .before .before .span .ensures) (c .before .before .before .before .before .c .given .1), was-kind (c .before .before .before .kind-of .ensures) (c .before .t .given .1) .family)
+    let placed = c .before .before .before .before .before in
+    (placed-within (placed .before .before .span .ensures) (placed .c .given .1), was-kind (c .before .before .before .kind-of .ensures) (c .before .t .given .1) .family)
 
 enum-told : tie.Need-enum-told
 enum-told c = search needs
@@ -34,17 +35,17 @@ new-requires-2 c κs = search needs
 
 returns : tie.Need-returns
 returns c =
-    let p = was-placed (c .before .before .before .before .before .before .before .before .span .ensures) (c .before .before .before .before .before .before .c .given .1) in
-    looks-up-placed (p .0) (p .1) (was-kind (c .before .before .before .before .kind-of .ensures) (c .before .before .t .given .1)) (c .look-up .ensures)
+    let told = c .before .before in
+    let placed = told .before .before .before .before in
+    looks-up-placed (placed .before .before .span .ensures) (placed .c .given .1) (was-kind (told .before .before .kind-of .ensures) (told .t .given .1)) (c .look-up .ensures)
 
 returns-2 : tie.Need-returns-2
 returns-2 c =
-    let p = was-placed (c .before .before .before .before .before .before .before .span .ensures) (c .before .before .before .before .before .c .given .1) in
-    stranger-entry (p .0) (was-stranger (c .before .before .before .kind-of .ensures) (c .before .enum-told .given .1)) (c .new .ensures)
+    let placed = c .before .before .before .before .before in
+    stranger-entry (placed .before .before .span .ensures) (placed .c .given .1) (c .before .before .before .kind-of .ensures) (c .before .enum-told .given .1) (c .new .ensures)
 
 returns-3 : tie.Need-returns-3
-returns-3 c =
-    outside-entry (was-outside (c .before .before .before .span .ensures) (c .before .enum-told2 .given .1)) (c .new2 .ensures)
+returns-3 c = outside-entry (c .before .before .before .span .ensures) (c .before .enum-told2 .given .1) (c .new2 .ensures)
 
 pub look-up-spec : {M : Type 1} → statement M
 look-up-spec =

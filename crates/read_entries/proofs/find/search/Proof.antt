@@ -1,4 +1,4 @@
-use Rattle.reading.specs.Laws.Places.{was-placed, was-outside, placed-within}
+use Rattle.reading.specs.Laws.Places.{placed-within}
 use Rattle.read_entries.specs.Laws.Readers.{outside-entry, searches-placed}
 use borrow.Author.Needs.{needs}
 use Rattle.read_entries.proofs.find.search.Statement.{statement}
@@ -21,13 +21,10 @@ new-requires : tie.Need-new-requires
 new-requires c κs = search needs
 
 returns : tie.Need-returns
-returns c =
-    let p = was-placed (c .before .before .before .before .span .ensures) (c .before .before .c .given .1) in
-    searches-placed (p .0) (p .1) (c .search .ensures)
+returns c = searches-placed (c .before .before .before .before .span .ensures) (c .before .before .c .given .1) (c .search .ensures)
 
 returns-2 : tie.Need-returns-2
-returns-2 c =
-    outside-entry (was-outside (c .before .before .before .span .ensures) (c .before .enum-told .given .1)) (c .new .ensures)
+returns-2 c = outside-entry (c .before .before .before .span .ensures) (c .before .enum-told .given .1) (c .new .ensures)
 
 pub search-spec : {M : Type 1} → statement M
 search-spec =

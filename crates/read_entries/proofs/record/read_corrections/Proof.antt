@@ -1,5 +1,5 @@
-use Rattle.reading.specs.Laws.Places.{was-placed, was-outside, placed-within}
-use Rattle.read_entries.specs.Laws.Readers.{was-kind, was-stranger, told-corrections, reads-outside, reads-stranger, reads-placed}
+use Rattle.reading.specs.Laws.Places.{placed-within}
+use Rattle.read_entries.specs.Laws.Readers.{was-kind, told-corrections, reads-outside, reads-stranger, reads-placed}
 use borrow.Author.Needs.{needs}
 use Rattle.read_entries.proofs.record.read_corrections.Statement.{statement}
 use Rattle.read_entries.proofs.record.read_corrections.Tie as tie
@@ -18,7 +18,8 @@ enum-told c = search needs
 
 read-requires : tie.Need-read-requires
 read-requires c κs =
-    placed-within (c .before .before .before .before .before .before .before .span .ensures) (c .before .before .before .before .before .c .given .1)
+    let placed = c .before .before .before .before .before in
+    placed-within (placed .before .before .span .ensures) (placed .c .given .1)
 
 enum-told-2 : tie.Need-enum-told-2
 enum-told-2 c = search needs
@@ -37,20 +38,18 @@ same-length c = search needs
 
 returns : tie.Need-returns
 returns c =
-    let u = c .before .before .before .before .before .before .before .before .before .before .before in
-    let p = was-placed (c .before .before .before .before .before .before .before .before .before .span .ensures) (c .before .before .before .before .before .before .before .c .given .1) in
-    reads-placed (u .args .list .now) (p .0) (p .1) (told-corrections (was-kind (c .before .before .before .before .before .kind-of .ensures) (c .before .before .before .enum-told .given .1))) (c .before .read .ensures)
+    let told = c .before .before .before in
+    let placed = told .before .before .before .before in
+    let kind = told-corrections (was-kind (told .before .before .kind-of .ensures) (told .enum-told .given .1)) in
+    reads-placed (placed .before .before .span .ensures) (placed .c .given .1) kind (c .before .read .ensures)
 
 returns-2 : tie.Need-returns-2
 returns-2 c =
-    let u = c .before .before .before .before .before .before .before .before .before in
-    let p = was-placed (c .before .before .before .before .before .before .before .span .ensures) (c .before .before .before .before .before .c .given .1) in
-    reads-stranger (u .args .list .now) (p .0) (was-stranger (c .before .before .before .kind-of .ensures) (c .before .enum-told2 .given .1)) (c .new .ensures)
+    let placed = c .before .before .before .before .before in
+    reads-stranger (placed .before .before .span .ensures) (placed .c .given .1) (c .before .before .before .kind-of .ensures) (c .before .enum-told2 .given .1) (c .new .ensures)
 
 returns-3 : tie.Need-returns-3
-returns-3 c =
-    let u = c .before .before .before .before .before in
-    reads-outside (u .args .list .now) (was-outside (c .before .before .before .span .ensures) (c .before .enum-told3 .given .1)) (c .new2 .ensures)
+returns-3 c = reads-outside (c .before .before .before .span .ensures) (c .before .enum-told3 .given .1) (c .new2 .ensures)
 
 pub read-corrections-spec : {M : Type 1} → statement M
 read-corrections-spec =
