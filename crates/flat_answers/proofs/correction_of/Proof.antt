@@ -1,12 +1,10 @@
+use mathlib.Core.Path.{refl}
 use mir.Val.{SFits}
 use mir.Facts.{toZ-ofZ}
 use mir.Syntax.{w32}
-use Rattle.find_in_records.specs.declared.LookedUpCorrection.{LookedUpCorrection}
 use Rattle.find_in_records.specs.Told.{lookedUpCorrection}
 use Rattle.flat_answers.specs.Flat.{flatCorrection}
-use mathlib.Core.Path.{sym, ap, ap₂, _∙_}
-use Prim.Native.Nat.{ℕ}
-use Rattle.format.specs.Answers.{refuses}
+use Rattle.flat_answers.specs.Laws.Flat.{of-arm, of-refusal}
 use borrow.Author.Needs.{needs}
 use Rattle.flat_answers.proofs.correction_of.Statement.{statement}
 use Rattle.flat_answers.proofs.correction_of.Tie as tie
@@ -26,11 +24,10 @@ bit-requires c κs = search needs
 returns : tie.Need-returns
 returns c =
     let fits : SFits w32 (c .before .answer .given .0 .0) = record { sfits = c .known-told .given .0 .1 } in
-    rw (toZ-ofZ fits) (sym (ap (λ (a : LookedUpCorrection). flatCorrection (lookedUpCorrection a)) (c .before .answer .given .1)))
+    rw (toZ-ofZ fits) (of-arm flatCorrection lookedUpCorrection (c .before .answer .given .1))
 
 returns-2 : tie.Need-returns-2
-returns-2 c =
-    ap₂ (λ (n t : ℕ). flatCorrection (refuses n t)) (c .before .number .ensures) (c .bit .ensures) ∙ sym (ap (λ (a : LookedUpCorrection). flatCorrection (lookedUpCorrection a)) (c .before .before .before .answer2 .given .1))
+returns-2 c = of-refusal flatCorrection lookedUpCorrection (c .before .before .before .answer2 .given .1) refl (c .before .number .ensures) (c .bit .ensures)
 
 pub correction-of-spec : {M : Type 1} → statement M
 correction-of-spec =

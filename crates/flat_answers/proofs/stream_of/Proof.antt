@@ -1,9 +1,7 @@
-use Rattle.read_streams.specs.declared.Checked.{Checked}
+use mathlib.Core.Path.{refl}
 use Rattle.read_streams.specs.Told.{checked}
 use Rattle.flat_answers.specs.Flat.{flatStream}
-use mathlib.Core.Path.{sym, ap, ap₂, _∙_}
-use Prim.Native.Nat.{ℕ}
-use Rattle.format.specs.Answers.{refuses}
+use Rattle.flat_answers.specs.Laws.Flat.{of-arm, of-refusal}
 use borrow.Author.Needs.{needs}
 use Rattle.flat_answers.proofs.stream_of.Statement.{statement}
 use Rattle.flat_answers.proofs.stream_of.Tie as tie
@@ -21,12 +19,10 @@ bit-requires : tie.Need-bit-requires
 bit-requires c κs = search needs
 
 returns : tie.Need-returns
-returns c =
-    sym (ap (λ (a : Checked). flatStream (checked a)) (c .before .answer .given .1))
+returns c = of-arm flatStream checked (c .before .answer .given .1)
 
 returns-2 : tie.Need-returns-2
-returns-2 c =
-    ap₂ (λ (n t : ℕ). flatStream (refuses n t)) (c .before .number .ensures) (c .bit .ensures) ∙ sym (ap (λ (a : Checked). flatStream (checked a)) (c .before .before .before .answer2 .given .1))
+returns-2 c = of-refusal flatStream checked (c .before .before .before .answer2 .given .1) refl (c .before .number .ensures) (c .bit .ensures)
 
 pub stream-of-spec : {M : Type 1} → statement M
 stream-of-spec =

@@ -1,16 +1,12 @@
-use mathlib.Core.Path.{_≡_, sym, ap, _∙_}
+use mathlib.Core.Path.{ap, _∙_}
 use Prim.Native.Nat.{ℕ}
 use Rattle.format.specs.Answers.{gives}
-use Rattle.writing.specs.declared.Wrote.{Wrote}
 use Rattle.writing.specs.Wrote.{outcomeOf}
 use Rattle.flat_answers.specs.Flat.{flatWritten}
+use Rattle.flat_answers.specs.Laws.Flat.{of-arm}
 use borrow.Author.Needs.{needs}
 use Rattle.flat_answers.proofs.written_of.Statement.{statement}
 use Rattle.flat_answers.proofs.written_of.Tie as tie
-
--- what an arm of the match has found, flattened
-of-arm : {a b : Wrote} → a ≡ b → flatWritten (outcomeOf b) ≡ flatWritten (outcomeOf a)
-of-arm e = sym (ap (λ (a : Wrote). flatWritten (outcomeOf a)) e)
 
 enum-known-answer : tie.Need-enum-known-answer
 enum-known-answer c = search needs
@@ -37,25 +33,25 @@ enum-told-4 : tie.Need-enum-told-4
 enum-told-4 c = search needs
 
 returns : tie.Need-returns
-returns c = ap (λ (p : ℕ). flatWritten (gives p)) (c .bit .ensures) ∙ of-arm (c .before .before .answer .given .1)
+returns c = ap (λ (p : ℕ). flatWritten (gives p)) (c .bit .ensures) ∙ of-arm flatWritten outcomeOf (c .before .before .answer .given .1)
 
 returns-2 : tie.Need-returns-2
-returns-2 c = of-arm (c .enum-told .given .1)
+returns-2 c = of-arm flatWritten outcomeOf (c .enum-told .given .1)
 
 returns-3 : tie.Need-returns-3
-returns-3 c = of-arm (c .before .answer2 .given .1)
+returns-3 c = of-arm flatWritten outcomeOf (c .before .answer2 .given .1)
 
 returns-4 : tie.Need-returns-4
-returns-4 c = of-arm (c .before .answer3 .given .1)
+returns-4 c = of-arm flatWritten outcomeOf (c .before .answer3 .given .1)
 
 returns-5 : tie.Need-returns-5
-returns-5 c = of-arm (c .enum-told2 .given .1)
+returns-5 c = of-arm flatWritten outcomeOf (c .enum-told2 .given .1)
 
 returns-6 : tie.Need-returns-6
-returns-6 c = of-arm (c .enum-told3 .given .1)
+returns-6 c = of-arm flatWritten outcomeOf (c .enum-told3 .given .1)
 
 returns-7 : tie.Need-returns-7
-returns-7 c = of-arm (c .enum-told4 .given .1)
+returns-7 c = of-arm flatWritten outcomeOf (c .enum-told4 .given .1)
 
 pub written-of-spec : {M : Type 1} → statement M
 written-of-spec =
