@@ -8,7 +8,7 @@ use lib.ListN.{take}
 use lib.Seq.{length-take-le}
 use Rattle.format.specs.Kinds.{Family, Unsigned, Signed}
 use Rattle.format.specs.Answers.{Outcome}
-use Rattle.format.specs.Reading.{Reads, LooksUp, Searches, Checks}
+use Rattle.format.specs.Reading.{Item, Reads, LooksUp, Searches, Checks}
 use Rattle.format.specs.Writing.{Writes, WritesEnd}
 use Rattle.format.specs.Laws.Reading.{reads-one, looks-up-one, searches-one, checks-one}
 use Rattle.format.specs.Laws.Writing.{writes-one, writes-end-one}
@@ -19,7 +19,8 @@ use Rattle.read_records.specs.declared.Read.{Read}
 use Rattle.read_records.specs.declared.Read.the-variants as OfRead
 use Rattle.read_entries.specs.Reads.{ReadsInto}
 use Rattle.flat_answers.specs.Flat.{flatWritten, flatRecord, flatValue, flatCorrection, flatPlace, flatStream}
-use Rattle.flat_answers.specs.Reads.{FewValues}
+use Rattle.flat_answers.specs.Reads.{FewValues, flatRead}
+use Rattle.flat_answers.specs.Laws.Flat.{flat-item}
 use Rattle.moortangle_c.specs.Tells.{Tells}
 use Rattle.flat_answers.specs.declared.Written.{Written}
 use Rattle.flat_answers.specs.declared.Record.{Record}
@@ -40,12 +41,18 @@ tells-between flat Right {x = x} e g h f = record { outcome = x; right = subst�
 -- ---- a record has no more values than a list may have
 
 module _ {bytes : List ℕ} {start stop : ℕ} {f : Family} {kind : ℕ} {old : List ℤ} where
-  pub few-values : (r : Read) (new : List ℤ) → ReadsInto bytes start stop f kind old r new → FewValues r
-  few-values (OfRead.Record h n p) new x =
+  pub few-values : {r : Read} {new : List ℤ} → ReadsInto bytes start stop f kind old r new → FewValues r
+  few-values {r = OfRead.Record h n p} {new = new} x =
       let a = reads-accepted bytes start stop f kind old (headed h (take n new)) (p .0) new (x .reads) in
       omega (arith, length-take-le n new (x .counted), a .valid .count)
-  few-values (OfRead.End p) new x = tt
-  few-values (OfRead.Refused m p) new x = tt
+  few-values {r = OfRead.End p} x = tt
+  few-values {r = OfRead.Refused m p} x = tt
+
+  -- what a reader made of the positions with these numbers, flattened, is what C is told
+  pub reads-tell : {from upto : ℕ} {new : List ℤ} {r : Read} {q : Record} → start ≡ from → stop ≡ upto → ReadsInto bytes start stop f kind old r new → q ≡ flatRead r
+      → Tells flatRecord (λ x. Reads bytes from upto f kind old x new) q
+  reads-tell {new = new} {r = r} e g x h =
+      tells-between flatRecord (λ (n m : ℕ) (y : Outcome Item). Reads bytes n m f kind old y new) e g (x .reads) (h ∙ flat-item r new (x .counted))
 
 -- ---- where a contract has one outcome, C gets one answer, and what is lent ends in one way
 

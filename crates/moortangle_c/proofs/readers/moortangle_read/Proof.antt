@@ -1,14 +1,4 @@
-use Rattle.format.specs.Reading.{Item}
-use mathlib.Core.List.{map}
-use mathlib.Core.Path.{_∙_}
-use lib.IntN.{pos}
-use Rattle.format.specs.Kinds.{Unsigned}
-use Rattle.flat_answers.specs.Flat.{flatRecord}
-use Rattle.flat_answers.specs.Laws.Flat.{flat-item}
-use Rattle.moortangle_c.specs.Laws.Tells.{tells-between, few-values}
-use Rattle.format.specs.Reading.{Reads}
-use Rattle.format.specs.Answers.{Outcome}
-use Prim.Native.Nat.{ℕ}
+use Rattle.moortangle_c.specs.Laws.Tells.{few-values, reads-tell}
 use borrow.Author.Needs.{needs}
 use Rattle.moortangle_c.proofs.readers.moortangle_read.Statement.{statement}
 use Rattle.moortangle_c.proofs.readers.moortangle_read.Tie as tie
@@ -23,18 +13,15 @@ read-requires : tie.Need-read-requires
 read-requires c κs = search needs
 
 record-of-requires : tie.Need-record-of-requires
-record-of-requires c κs =
-    let e = c .before .before .read in
-    few-values (e .result) (map pos (e .last .1 .1 .1 .1 .0)) (e .ensures)
+record-of-requires c κs = few-values (c .before .before .read .ensures)
 
 same-length : tie.Need-same-length
 same-length c = search needs
 
 returns : tie.Need-returns
 returns c =
-    let e = c .before .before .before .read in
-    let a = c .before .before .before .before .before .before .before .before .before .args in
-    tells-between flatRecord (λ (start stop : ℕ) (x : Outcome Item). Reads (a .buffer .now) start stop Unsigned (a .kind) (map pos (a .list .now)) x (map pos (e .last .1 .1 .1 .1 .0))) (c .before .before .before .before .before .before .at .ensures) (c .before .before .before .before .before .at2 .ensures) (e .ensures .reads) (c .record-of .ensures ∙ flat-item (e .result) (map pos (e .last .1 .1 .1 .1 .0)) (e .ensures .counted))
+    let read = c .before .before .before in
+    reads-tell (read .before .before .before .at .ensures) (read .before .before .at2 .ensures) (read .read .ensures) (c .record-of .ensures)
 
 pub moortangle-read-spec : {M : Type 1} → statement M
 moortangle-read-spec =
