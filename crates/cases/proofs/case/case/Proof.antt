@@ -70,7 +70,11 @@ slice-aggregate-call-2 : tie.Need-slice-aggregate-call-2
 slice-aggregate-call-2 c = sym (length-take-le _ _ (omega arith))
 
 call-requires : tie.Need-call-requires
-call-requires c κs = (front (c .before .before .before .before .before .before .before .before .before .before .before .before .items2 .result) 65538 (c .before .before .before .before .before .before .before .before .narrow .last .1 .0) (omega arith) (omega arith), front (c .before .before .before .before .before .items3 .result) 65538 (c .before .before .before .before .before .items3 .last .1 .1 .1 .1 .0) (omega arith) (omega arith))
+call-requires c κs =
+    let listed = c .before .before .before .before .before in
+    let narrowed = listed .before .before .before in
+    let sized = narrowed .before .before .before .before in
+    (front (sized .items2 .result) 65538 (narrowed .narrow .last .1 .0) (omega arith) (omega arith), front (listed .items3 .result) 65538 (listed .items3 .last .1 .1 .1 .1 .0) (omega arith) (omega arith))
 
 returns : tie.Need-returns
 returns c = search needs
