@@ -130,10 +130,10 @@ delta-made d w h l = let (v, e) = delta-joined d w h l in (v, ap (λ (n : ℕ). 
 
 module _ (k : ℕ) where
   abbrev pub most : ℕ
-  most = 4294967294 / 2 ^ k
+  most = (largestWord - 1) / 2 ^ k
 
   abbrev pub Left : ℕ → ℕ → Type 0
-  Left q = Among k 0 (min (2 ^ k - 1) (4294967294 - q * 2 ^ k))
+  Left q = Among k 0 (min (2 ^ k - 1) (largestWord - 1 - q * 2 ^ k))
 
   quot : ℕ → ℕ × ℕ
   quot w = ((w - 1) / 2 ^ k, (w - 1) % 2 ^ k)
@@ -143,10 +143,10 @@ module _ (k : ℕ) where
   rice-to w h =
       let e = split (w - 1) k in
       let l = mod-lt (w - 1) (pow-pos k) in
-      let s : (w - 1) / 2 ^ k ≤ 4294967294 / 2 ^ k = shr-mono k (omega arith) in
+      let s : (w - 1) / 2 ^ k ≤ (largestWord - 1) / 2 ^ k = shr-mono k (omega arith) in
       ((s, (omega arith, omega arith, l)), rice-is k w ∙ ap (λ (r : ℕ). run ((w - 1) / 2 ^ k) ++ inBits k r) (sym (mod-eq-sub-div-mul (w - 1) (2 ^ k))))
 
-  pub base-le : (q : ℕ) → q ≤ most → q * 2 ^ k ≤ 4294967294
+  pub base-le : (q : ℕ) → q ≤ most → q * 2 ^ k ≤ largestWord - 1
   base-le q h = le-div-iff-mul-le (pow-pos k) .0 h
 
   rice-joined : (q r : ℕ) → q ≤ most → Left q r → Word (q * 2 ^ k + 1 + r) × (quot (q * 2 ^ k + 1 + r) ≡ (q, r))
@@ -154,7 +154,7 @@ module _ (k : ℕ) where
   rice-joined q r h g =
       let i = base-le q h in
       let l : r < 2 ^ k = g .2 in
-      let m : r ≤ min (2 ^ k - 1) (4294967294 - q * 2 ^ k) = g .1 in
+      let m : r ≤ min (2 ^ k - 1) (largestWord - 1 - q * 2 ^ k) = g .1 in
       let e : q * 2 ^ k + 1 + r - 1 ≡ q * 2 ^ k + r = omega arith in
       ((omega arith, omega arith), rw e (ap₂ (λ (a b : ℕ). (a, b)) (Pow.high q k l) (Pow.low q k l)))
 

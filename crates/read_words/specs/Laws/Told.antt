@@ -4,6 +4,7 @@ use mathlib.Core.Bool.{Bool}
 use mathlib.Core.List.{List}
 use Prim.Native.Nat.{ℕ, _+_, _≤_}
 use native.Mathlib.Omega.{arith}
+use Rattle.format.specs.Limits.{largestWord}
 use Rattle.layout.specs.Bits.{window}
 use Rattle.layout.specs.Layout.{Stops, word}
 use Rattle.layout.specs.Dead.{Dies}
@@ -61,7 +62,7 @@ module _ {ok : ℕ → Type 0} {bits : ℕ → List Bool} {ok′ : ℕ → ℕ �
     second-told f g (cut k) = second-cut k
     second-told f g (bad k l) = second-bad (k, l)
 
-pub told-fits : {ok : ℕ → Type 0} {bits : ℕ → List Bool} {s : List ℕ} {c : Cursor} {r : Read} (by : ℕ) → ToldWord ok bits s c r → ((w : ℕ) → ok w → by + w ≤ 4294967295) → Fits by r
+pub told-fits : {ok : ℕ → Type 0} {bits : ℕ → List Bool} {s : List ℕ} {c : Cursor} {r : Read} (by : ℕ) → ToldWord ok bits s c r → ((w : ℕ) → ok w → by + w ≤ largestWord) → Fits by r
 told-fits by (took {w = w} t) h = h w (t .takes .valid)
 told-fits by (cut k) h = tt
 told-fits by (bad k l) h = tt

@@ -1,6 +1,7 @@
 use mathlib.Core.Path.{_≡_, sym, ap, _∙_, subst}
 use Prim.Native.Nat.{ℕ, _+_, _-_, _^_, _≤_, _<_, min}
 use lib.Pow.{pow-mono}
+use Rattle.format.specs.Limits.{largestWord}
 use Rattle.layout.specs.Bits.{inBits}
 use Rattle.layout.specs.Layout.{word}
 use Rattle.format.specs.Codes.{gamma}
@@ -20,7 +21,7 @@ start b = b .before .before
 first : (f : tie.After-z) → let a = start (f .before .before) .args in Taken (word (Upto (a .most)) run) (a .s .now) (a .c) (f .z .given .0 .0) (f .z .given .0 .1 .0)
 first f = was-taken (f .before .before .zeros .ensures) (f .z .given .1)
 
-small : (a : tie.Start) → a .args .top ≤ 4294967295
+small : (a : tie.Start) → a .args .top ≤ largestWord
 small a = omega (arith, a .fits .top .fits)
 
 -- the one after them is worth no more than the largest word

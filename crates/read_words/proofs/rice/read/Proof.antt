@@ -1,5 +1,6 @@
 use mathlib.Core.Path.{_≡_, sym, ap, _∙_, subst}
 use Prim.Native.Nat.{ℕ, _+_, _-_, _*_, _/_, _^_, _≤_, _<_, min}
+use Rattle.format.specs.Limits.{largestWord}
 use Rattle.layout.specs.Bits.{inBits}
 use Rattle.layout.specs.Layout.{word}
 use Rattle.format.specs.Codes.{Word, rice}
@@ -22,14 +23,14 @@ power b = b .before .before .power .result
 told : (b : tie.After-zeros) → let a = start b .args in ToldWord (Upto (most (a .k))) run (a .s .now) (a .c) (b .zeros .result)
 told b =
     let a = start b .args in
-    let f = b .before .most-zeros .ensures .0 ∙ ap (λ (y : ℕ). 4294967294 / y) (b .before .before .power .ensures .0) in
+    let f = b .before .most-zeros .ensures .0 ∙ ap (λ (y : ℕ). (largestWord - 1) / y) (b .before .before .power .ensures .0) in
     subst (λ (y : ℕ). ToldWord (Upto y) run (a .s .now) (a .c) (b .zeros .result)) f (b .zeros .ensures)
 
 first : (f : tie.After-q) → let a = start (f .before .before) .args in Taken (word (Upto (most (a .k))) run) (a .s .now) (a .c) (f .q .given .0 .0) (f .q .given .0 .1 .0)
 first f = was-taken (told (f .before .before)) (f .q .given .1)
 
 -- what they are worth
-base : (f : tie.After-q) → f .q .given .0 .0 * power (f .before .before) ≤ 4294967294
+base : (f : tie.After-q) → f .q .given .0 .0 * power (f .before .before) ≤ largestWord - 1
 base f = rw (f .before .before .before .before .power .ensures .0) (base-le (start (f .before .before) .args .k) (f .q .given .0 .0) (first f .takes .valid))
 
 power-requires : tie.Need-power-requires
@@ -84,7 +85,7 @@ returns c =
     let w = f .before .before .before .before .power in
     let a = start (f .before .before) .args in
     let q : ℕ = f .q .given .0 .0 in
-    let k : h .result ≡ min (2 ^ a .k - 1) (4294967294 - q * 2 ^ a .k) = h .ensures .0 ∙ ap (λ (y : ℕ). min (y - 1) (4294967294 - q * y)) (w .ensures .0) in
+    let k : h .result ≡ min (2 ^ a .k - 1) (largestWord - 1 - q * 2 ^ a .k) = h .ensures .0 ∙ ap (λ (y : ℕ). min (y - 1) (largestWord - 1 - q * y)) (w .ensures .0) in
     let r = c .before .between .result in
     let b = subst (λ (y : ℕ). ToldWord (Among (a .k) 0 y) (inBits (a .k)) (a .s .now) (f .q .given .0 .1 .0) r) k (c .before .between .ensures) in
     let e = c .raised .ensures ∙ ap (λ (y : ℕ). made (λ (x : ℕ). q * y + 1 + x) r) (w .ensures .0) in
