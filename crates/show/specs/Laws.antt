@@ -1,3 +1,3 @@
 -- What follows from the definitions. Nothing here has to be believed: it is proved.
 pub mod Next
-pub mod Text
+pub mod Steps

@@ -1,3 +1,3 @@
 pub mod Laws
 pub mod Next
-pub mod Text
+pub mod Steps

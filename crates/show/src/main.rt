@@ -1,12 +1,16 @@
-// Reads a stream from standard input and prints its records, or why it is no stream.
+// Reads a stream from standard input and prints its records, or why it is no stream. Every line is gathered whole in a lent buffer, and
+// what stands there is stated; then it is written.
 ghost use mathlib.Core.Path.{_≡_};
+ghost use Prim.Native.Nat.{_≤_};
 ghost use lib.ListN.{length};
+ghost use Rattle.format.specs.Limits.{longestList};
+ghost use Rattle.lines.specs.Text.{longestLine};
+ghost use Rattle.show.specs.Next.{GoesOn};
+ghost use Rattle.show.specs.Steps.{Begins};
 use bits::BitPos;
 use read_streams::Checked;
-use reading::Refusal;
+use records::Line;
 
-mod digits;
-mod output;
 mod records;
 
 // One byte more than a stream may have: so a longer one is known by its length, and is not read on.
@@ -16,19 +20,66 @@ fn room() -> [u8; 65537]
     [0; 65537]
 }
 
-fn refused(why: Refusal, at: BitPos) {
-    let mut out = output::buffer();
-    let word = output::text(&mut out, 0, b"refused ");
-    let answer = output::number(&mut out, word, reading::number(why) as u64, b' ');
-    let line = output::number(&mut out, answer, at.bit() as u64, b'\n');
-    output::write(&out, line);
+fn room_for_a_line() -> [u8; 49216]
+    ensures { λ r. ⌜ longestLine ≡ length r ⌝ }
+{
+    [0; 49216]
+}
+
+// How it begins: with a stream, or with so many bytes of a line that tells why there is none.
+enum Begun {
+    Stream,
+    Refused(usize),
 }
 
 // The stream is checked whole before anything is printed: a stream that is refused shows no record.
-fn show(s: &[u8]) {
+fn begin(s: &[u8], out: &mut [u8]) -> Begun
+    requires { ⌜ longestLine ≤ length (now out) ⌝ }
+    ensures { λ r. ⌜ Begins (now (s .entry)) (now (out .exit)) r ⌝ }
+{
     match moortangle::stream::check(s) {
-        Checked::Stream(_, _) => records::show(s),
-        Checked::Refused(why, at) => refused(why, at),
+        Checked::Stream(_, _) => Begun::Stream,
+        Checked::Refused(why, at) => {
+            let answer = reading::number(why);
+            let bit = at.bit() as u32;
+            Begun::Refused(lines::refusal(out, answer, bit))
+        }
+    }
+}
+
+fn write(out: &[u8], bytes: usize)
+    requires { ⌜ bytes ≤ length (now out) ⌝ }
+{
+    io::write_all(1, &out[..bytes]);
+}
+
+// Every line, up to the end's. Each record begins after the one before it, so there is a last one.
+fn print(s: &[u8], values: &mut [u32], corrections: &mut [i32], out: &mut [u8])
+    requires { ⌜ GoesOn (now s) 0 × (longestLine ≤ length (now out)) ⌝ }
+    requires { ⌜ (longestList ≤ length (now values)) × (longestList ≤ length (now corrections)) ⌝ }
+{
+    let mut at = 0;
+    loop {
+        match records::step(s, BitPos::new(at), values, corrections, out) {
+            Line::More(bytes, after) => {
+                write(out, bytes);
+                at = after.bit();
+            }
+            Line::Last(bytes) => {
+                write(out, bytes);
+                return;
+            }
+        }
+    }
+}
+
+fn show(s: &[u8]) {
+    let mut values = [0u32; 4096];
+    let mut corrections = [0i32; 4096];
+    let mut out = room_for_a_line();
+    match begin(s, &mut out) {
+        Begun::Stream => print(s, &mut values, &mut corrections, &mut out),
+        Begun::Refused(bytes) => write(&out, bytes),
     }
 }
 

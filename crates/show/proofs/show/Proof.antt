@@ -1,26 +1,47 @@
-use mathlib.Core.Path.{ap, subst}
-use Rattle.format.specs.Reading.{Checks}
-use Rattle.read_streams.specs.Told.{checked}
-use Rattle.show.specs.Laws.Next.{goes-first}
+use Rattle.show.specs.Laws.Steps.{begun-stream, begun-refused}
+use native.Mathlib.Omega.{arith}
 use borrow.Author.Needs.{needs}
 use Rattle.show.proofs.show.Statement.{statement}
 use Rattle.show.proofs.show.Tie as tie
 
-check-requires : tie.Need-check-requires
-check-requires c κs = search needs
+room-for-a-line-requires : tie.Need-room-for-a-line-requires
+room-for-a-line-requires c κs = search needs
+
+slice-aggregate-begin : tie.Need-slice-aggregate-begin
+slice-aggregate-begin c = search needs
+
+begin-requires : tie.Need-begin-requires
+begin-requires c κs = search needs
 
 enum-told : tie.Need-enum-told
 enum-told c = search needs
 
-show-requires : tie.Need-show-requires
-show-requires c κs =
-    goes-first _ _ (subst (Checks (c .before .before .before .before .args .s .now)) (ap checked (c .enum-told .given .1)) (c .before .before .check .ensures))
+slice-aggregate-print : tie.Need-slice-aggregate-print
+slice-aggregate-print c = search needs
 
-enum-known-why : tie.Need-enum-known-why
-enum-known-why c = search needs
+slice-aggregate-print-2 : tie.Need-slice-aggregate-print-2
+slice-aggregate-print-2 c = search needs
 
-refused-requires : tie.Need-refused-requires
-refused-requires c κs = search needs
+slice-aggregate-print-3 : tie.Need-slice-aggregate-print-3
+slice-aggregate-print-3 c = search needs
+
+print-requires : tie.Need-print-requires
+print-requires c κs =
+    let t : tie.After-enum-told = c .before .before .before in
+    let b : tie.After-begin = t .before .before .before in
+    ((begun-stream (b .begin .ensures) (t .enum-told .given .1), omega (arith, b .begin .kept .1 .0, b .before .before .room-for-a-line .ensures)), (omega arith, omega arith))
+
+enum-known-bytes : tie.Need-enum-known-bytes
+enum-known-bytes c = search needs
+
+slice-aggregate-write : tie.Need-slice-aggregate-write
+slice-aggregate-write c = search needs
+
+write-requires : tie.Need-write-requires
+write-requires c κs =
+    let t : tie.After-bytes = c .before .before in
+    let b : tie.After-begin = t .before .before .before in
+    begun-refused (b .begin .ensures) (t .bytes .given .1)
 
 returns : tie.Need-returns
 returns c = search needs
@@ -32,10 +53,16 @@ pub show-spec : {M : Type 1} → statement M
 show-spec =
     tie.close
     (tie.spec
-    check-requires
+    room-for-a-line-requires
+    slice-aggregate-begin
+    begin-requires
     enum-told
-    show-requires
-    enum-known-why
-    refused-requires
+    slice-aggregate-print
+    slice-aggregate-print-2
+    slice-aggregate-print-3
+    print-requires
+    enum-known-bytes
+    slice-aggregate-write
+    write-requires
     returns
     returns-2)

@@ -3,7 +3,7 @@ use mathlib.Core.Path.{_≡_, refl, sym, ap, _∙_, subst, subst₂}
 use mathlib.Core.Logic.{_⊎_, inl, inr}
 use mathlib.Core.Bool.{Bool}
 use mathlib.Core.List.{List, _++_, append-assoc}
-use Prim.Native.Nat.{ℕ, _+_, _-_, _*_, _≤_, _<_}
+use Prim.Native.Nat.{ℕ, _+_, _-_, _*_, _≤_}
 use native.Mathlib.Nat.{le-refl, le-trans}
 use native.Mathlib.Omega.{arith}
 use lib.IntN.{ℤ}
@@ -26,9 +26,7 @@ use Rattle.format.specs.Laws.Records.{record-sound, valid-any, any-valid}
 use Rattle.format.specs.Laws.Marks.{takes-no-end, takes-shorter}
 use Rattle.format.specs.Laws.Reading.{told-one, reads-one}
 use Rattle.format.specs.Laws.Outcomes.{reads-accepted, accepted-reads}
-use Rattle.bits.specs.declared.BitPos.{BitPos}
 use Rattle.headings.specs.Headings.{kindOf, headed}
-use Rattle.headings.specs.declared.Heading.{Heading}
 use Rattle.reading.specs.Refusals.{refusalNumber}
 use Rattle.read_records.specs.declared.Read.{Read}
 use Rattle.read_records.specs.declared.Read.the-variants.{Record, End, Refused}
@@ -206,12 +204,3 @@ last-kind a b c f h l =
     go Plain x y z = x refl
     go Instants x y z = y refl
     go Corrections x y z = z refl
-
--- ---- what was found next
-
-pub was-listed : {bytes : List ℕ} {at : ℕ} {lists : Kind → List ℤ} {r : Read} {h : Heading} {n : ℕ} {p : BitPos} → Next.Next bytes at lists r → r ≡ Record h n p → (n ≤ longestList) × (at < p .0) × GoesOn bytes (p .0)
-was-listed {bytes} {at} {n = n} {p = p} (Next.listed {n = m} {p = q} t few on more) e =
-    let f : m ≡ n = cc in
-    let g : q ≡ p = cc in
-    (subst (λ (k : ℕ). k ≤ longestList) f few, subst (λ (b : BitPos). at < b .0) g on, subst (λ (b : BitPos). GoesOn bytes (b .0)) g more)
-was-listed (Next.ended rest m w) e = let z : _≡_ {A = ℕ} 0 1 = cc in absurd (omega arith)
