@@ -7,7 +7,6 @@ ghost use Rattle.bits.specs.Cursor.{Within};
 ghost use Rattle.layout.specs.Bits.{inBits};
 ghost use Rattle.read_words.specs.Told.{ToldWord, Upto, run, Among, Live, made, Fits};
 use crate::Read;
-use bits::BitPos;
 use bits::Cursor;
 use bits::Field;
 use bits::small::least;

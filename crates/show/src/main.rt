@@ -1,29 +1,36 @@
 // Reads a stream from standard input and prints its records, or why it is no stream. Every line is gathered whole in a lent buffer, and
 // what stands there is stated; then it is written.
 ghost use mathlib.Core.Path.{_≡_};
-ghost use Prim.Native.Nat.{_≤_};
+ghost use Prim.Native.Nat.{_+_, _≤_};
 ghost use lib.ListN.{length};
-ghost use Rattle.format.specs.Limits.{longestList};
+ghost use Rattle.format.specs.Limits.{longestBuffer, longestList};
 ghost use Rattle.lines.specs.Text.{longestLine};
 ghost use Rattle.show.specs.Next.{GoesOn};
 ghost use Rattle.show.specs.Steps.{Begins};
 use bits::BitPos;
+use limits::LONGEST_BUFFER;
+use limits::LONGEST_LIST;
 use read_streams::Checked;
 use records::Line;
 
 mod records;
 
 // One byte more than a stream may have: so a longer one is known by its length, and is not read on.
-fn room() -> [u8; 65537]
-    ensures { λ r. ⌜ 65537 ≡ length r ⌝ }
+const INPUT: usize = LONGEST_BUFFER + 1;
+
+// At most 12 bytes for each value, and some for the heading.
+const LINE: usize = 12 * LONGEST_LIST + 64;
+
+fn room() -> [u8; INPUT]
+    ensures { λ r. ⌜ longestBuffer + 1 ≡ length r ⌝ }
 {
-    [0; 65537]
+    [0; INPUT]
 }
 
-fn room_for_a_line() -> [u8; 49216]
+fn room_for_a_line() -> [u8; LINE]
     ensures { λ r. ⌜ longestLine ≡ length r ⌝ }
 {
-    [0; 49216]
+    [0; LINE]
 }
 
 // How it begins: with a stream, or with so many bytes of a line that tells why there is none.
@@ -74,8 +81,8 @@ fn print(s: &[u8], values: &mut [u32], corrections: &mut [i32], out: &mut [u8])
 }
 
 fn show(s: &[u8]) {
-    let mut values = [0u32; 4096];
-    let mut corrections = [0i32; 4096];
+    let mut values = [0u32; LONGEST_LIST];
+    let mut corrections = [0i32; LONGEST_LIST];
     let mut out = room_for_a_line();
     match begin(s, &mut out) {
         Begun::Stream => print(s, &mut values, &mut corrections, &mut out),

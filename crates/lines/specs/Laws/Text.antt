@@ -5,9 +5,10 @@ use Prim.Native.Nat.{ℕ, _+_, _%_}
 use native.Mathlib.Omega.{arith}
 use lib.IntN.{ℤ}
 use lib.ListN.{length, length-append}
+use lib.Seq.{paste}
 use Rattle.format.specs.Records as Records
 use Rattle.lines.specs.Text as Text
-use Rattle.lines.specs.Text.{digit, Decimal, Numeral, separator, Numbers, RecordLine, RefusalLine}
+use Rattle.lines.specs.Text.{digit, Decimal, Numeral, separator, Numbers, RecordLine, RefusalLine, Stands}
 
 -- ---- there is one text
 
@@ -25,11 +26,18 @@ pub numbers-one : {m : ℕ} {vs : List ℤ} {a b : List ℕ} → Numbers m vs a 
 numbers-one Text.none Text.none = refl
 numbers-one {m} (Text.then {vs = vs} n r) (Text.then k s) = ap₂ (λ (t u : List ℕ). t ++ separator (length vs + m) ∷ u) (numeral-one n k) (numbers-one r s)
 
-pub record-line-one : (r : Records.Record) {a b : List ℕ} → RecordLine r a → RecordLine r b → a ≡ b
-record-line-one r h k = numbers-one h k
+pub record-line-one : (r : Records.Record) (a b : List ℕ) → RecordLine r a → RecordLine r b → a ≡ b
+record-line-one r a b h k = numbers-one h k
 
-pub refusal-line-one : {answer bit : ℕ} {a b : List ℕ} → RefusalLine answer bit a → RefusalLine answer bit b → a ≡ b
-refusal-line-one h k = h .whole ∙ ap (λ (t : List ℕ). Text.ascii "refused " ++ t) (numbers-one (h .are) (k .are)) ∙ sym (k .whole)
+pub refusal-line-one : (answer bit : ℕ) (a b : List ℕ) → RefusalLine answer bit a → RefusalLine answer bit b → a ≡ b
+refusal-line-one answer bit a b h k = h .whole ∙ ap (λ (t : List ℕ). Text.ascii "refused " ++ t) (numbers-one (h .are) (k .are)) ∙ sym (k .whole)
+
+-- so what two answers tell, and the whole buffer, are equal
+pub stands-one : {Text : List ℕ → Type 0} → ((a b : List ℕ) → Text a → Text b → a ≡ b) → {old : List ℕ} {at : ℕ} {new new′ : List ℕ} {next next′ : ℕ}
+    → Stands Text old at new next → Stands Text old at new′ next′ → (next ≡ next′) × (new ≡ new′)
+stands-one one {old} {at} s u =
+    let e = one (s .text) (u .text) (s .is) (u .is) in
+    (s .after ∙ ap (λ (t : List ℕ). at + length t) e ∙ sym (u .after), s .left ∙ ap (λ (t : List ℕ). paste old at t (length t)) e ∙ sym (u .left))
 
 -- ---- side by side
 

@@ -15,7 +15,7 @@ use Rattle.format.specs.Kinds.{Kind, Family, Signed}
 use Rattle.format.specs.Answers.{Outcome, refuses, Told}
 use Rattle.format.specs.Reading as Reading
 use Rattle.format.specs.Reading.{Entry, LookUp, LooksUp, askedFor, Search, Searches, Check, Checks}
-use Rattle.bits.specs.Cursor.{Within, left}
+use Rattle.bits.specs.Cursor.{left}
 use Rattle.bits.specs.declared.BitPos.{BitPos}
 use Rattle.bits.specs.declared.Cursor.{Cursor}
 use Rattle.headings.specs.Headings as Headings

@@ -10,7 +10,7 @@ use Rattle.format.specs.Limits.{longestBuffer, longestList, largestParameter}
 use Rattle.format.specs.Kinds.{Kind, Family, ListOf}
 use Rattle.format.specs.Records as Records
 use Rattle.format.specs.Records.{anyRecord}
-use Rattle.format.specs.Answers.{Outcome, refuses, Start}
+use Rattle.format.specs.Answers.{refuses, Start}
 use Rattle.format.specs.Writing as Writing
 use Rattle.format.specs.Writing.{parameterOf, Chosen, Faulty, Puts, written, Writes}
 use Rattle.format.specs.Laws.Writing.{writes-one}
