@@ -2,7 +2,7 @@
 use mathlib.Core.Path.{_≡_}
 use mathlib.Core.Bool.{Bool, true, false}
 use mathlib.Core.List.{List, [], _∷_, _++_}
-use Prim.Native.Nat.{ℕ, zero, suc, _+_, _-_, _*_, _/_, _%_, _≤_, _<_}
+use Prim.Native.Nat.{ℕ, zero, suc, _+_, _-_, _*_, _/_, _%_, _^_, _≤_, _<_}
 use lib.Dec.{ltb}
 use lib.IntN.{ℤ}
 use lib.ListN.{length, getD, drop}
@@ -13,6 +13,13 @@ use Rattle.format.specs.Interpolative.{width}
 use Rattle.format.specs.Records.{Rice, codeNumber, Record, Valid, anyRecord}
 use Rattle.format.specs.Answers.{gives, Span, toldBit, Told}
 use Rattle.format.specs.Reading.{listed, Reads}
+
+-- ---- numbers
+
+-- n has suc m digits of base b
+pub record Held (b n m : ℕ) : Type 0 where
+  pub low : b ^ m ≤ n
+  pub high : n < b ^ suc m
 
 -- ---- the writer
 
@@ -87,6 +94,10 @@ places (suc turns) s l r low hi =
           let m = (l + r) / 2 in
           inBits (width (hi - low - (r - l) + 1)) (s m - low - (m - l)) ++ (places turns s l (m - 1) low (s m - 1) ++ places turns s (m + 1) r (s m + 1) hi)
     ]
+
+-- xs are the elements from place l on
+abbrev pub From : (ℕ → ℕ) → ℕ → List ℕ → Type 0
+From s l xs = (j : ℕ) → j < length xs → getD xs j 0 ≡ s (l + j)
 
 -- the rising list by places
 abbrev pub riser : List ℕ → ℕ → ℕ

@@ -2,7 +2,7 @@
 // bits; it is 0 where the look does not settle it, because the word is long, cut short or bad.
 ghost use mathlib.Core.Path.{_≡_};
 ghost use Prim.Native.Nat.{_+_, _*_, _≤_, _<_};
-ghost use Rattle.format.specs.Limits.{largestWord};
+ghost use Rattle.format.specs.Limits.{largestWord, largestParameter};
 ghost use Rattle.format.specs.Codes.{gamma, delta, rice, variableByte};
 ghost use Rattle.glimpse_words.specs.Glimpsed.{Glimpsed};
 use bits::small::power;
@@ -29,7 +29,7 @@ pub fn gamma(n: u64) -> u64
 
 // A quotient and a remainder of 31 bits together.
 pub fn rice(n: u64, k: usize) -> u64
-    requires { ⌜ k ≤ 31 ⌝ }
+    requires { ⌜ k ≤ largestParameter ⌝ }
     ensures { λ r. ⌜ Glimpsed (rice k) n r ⌝ }
 {
     if n == 0 {

@@ -19,3 +19,13 @@ pub record Sound {A : Type 0} (L : Layout A) : Type 0 where
 -- it says something of any bits
 abbrev pub Total : {A : Type 0} → Layout A → Type 0
 Total {A} L = (w : List Bool) → (x : Answer A) × Says L w x
+
+-- ---- what the laws ask of the values that are laid out
+
+-- no two good ones are written as one
+abbrev pub Injective : {A B : Type 0} → (B → Type 0) → (B → A) → Type 0
+Injective {B = B} good f = (b c : B) → good b → good c → f b ≡ f c → b ≡ c
+
+-- a set of which it can be told whether one of it has a property, where that can be told of each
+abbrev pub Searchable : {A : Type 0} → (A → Type 0) → Type 1
+Searchable {A} ok = (P : A → Type 0) → ((a : A) → Dec (P a)) → Dec ((a : A) × ok a × P a)

@@ -57,9 +57,9 @@ pub record RefusalLine (answer bit : ℕ) (text : List ℕ) : Type 0 where
   pub are : Numbers 0 (pos answer ∷ pos bit ∷ []) numbers
   pub whole : text ≡ ascii "refused " ++ numbers
 
--- room for every line: a number of 32 bits has at most ten digits, before them a minus and behind them what follows
+-- room for every line: a number of 32 bits has at most ten digits and what follows them, a value a minus before them; and four numbers stand before the values
 abbrev pub longestLine : ℕ
-longestLine = 12 * longestList + 64
+longestLine = 12 * longestList + 44
 
 -- such a text stands in a buffer from `at` up to `next`, and nothing else has changed
 pub record Stands (Text : List ℕ → Type 0) (old : List ℕ) (at : ℕ) (new : List ℕ) (next : ℕ) : Type 0 where

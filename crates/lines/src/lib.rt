@@ -10,8 +10,12 @@ ghost use Rattle.format.specs.Records.{codeNumber};
 ghost use Rattle.headings.specs.Headings.{codeOf, carried, kindOf, headed};
 ghost use Rattle.lines.specs.Text.{longestLine, Numbers, RecordLine, EndLine, RefusalLine, Stands};
 use headings::Heading;
+use limits::LONGEST_LIST;
 
 mod numbers;
+
+// Room for every line.
+pub const LONGEST_LINE: usize = 12 * LONGEST_LIST + 44;
 
 // What stands before a record's values.
 fn heading(out: &mut [u8], h: Heading, count: usize) -> usize

@@ -3,7 +3,7 @@ ghost use mathlib.Core.Path.{_≡_};
 ghost use Prim.Native.Nat.{_-_, _≤_, _<_, min};
 ghost use lib.ListN.{length};
 ghost use Rattle.format.specs.Codes.{Word, gamma};
-ghost use Rattle.format.specs.Laws.Digits.{Held};
+ghost use Rattle.format.specs.Restated.{Held};
 ghost use Rattle.bits.specs.Cursor.{Within};
 ghost use Rattle.read_words.specs.Told.{ToldWord, Upward};
 use crate::Read;

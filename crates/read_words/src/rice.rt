@@ -2,7 +2,7 @@
 ghost use mathlib.Core.Path.{_≡_};
 ghost use Prim.Native.Nat.{_+_, _-_, _*_, _/_, _≤_, _<_, min};
 ghost use lib.ListN.{length};
-ghost use Rattle.format.specs.Limits.{largestWord};
+ghost use Rattle.format.specs.Limits.{largestWord, largestParameter};
 ghost use Rattle.format.specs.Codes.{Word, rice};
 ghost use Rattle.bits.specs.Cursor.{Within};
 ghost use Rattle.read_words.specs.Told.{ToldWord};
@@ -39,7 +39,7 @@ fn most_after(p: u32, base: u64) -> u64
 }
 
 pub fn read(c: Cursor, s: &[u8], k: usize) -> Read
-    requires { ⌜ Within c (length (now s)) × (k ≤ 31) ⌝ }
+    requires { ⌜ Within c (length (now s)) × (k ≤ largestParameter) ⌝ }
     ensures { λ r. ⌜ ToldWord Word (rice k) (now (s .entry)) c r ⌝ }
 {
     let p = power(k);

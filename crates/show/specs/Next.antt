@@ -9,9 +9,10 @@ use Rattle.layout.specs.Bits.{window}
 use Rattle.layout.specs.Layout.{Takes}
 use Rattle.format.specs.Limits.{longestBuffer, longestList}
 use Rattle.format.specs.Kinds.{Kind, Plain, Instants, Corrections}
+use Rattle.format.specs.Records as Records
 use Rattle.format.specs.Records.{anyRecord}
 use Rattle.format.specs.Streams.{endMark}
-use Rattle.format.specs.Answers.{gives}
+use Rattle.format.specs.Answers.{gives, toldBit}
 use Rattle.format.specs.Reading.{Check}
 use Rattle.bits.specs.declared.BitPos.{BitPos}
 use Rattle.headings.specs.Headings.{kindOf, headed}
@@ -32,6 +33,13 @@ pub record GoesOn (bytes : List ℕ) (at : ℕ) : Type 0 where
   pub values : ℕ
   pub told : ℕ × ℕ
   pub check : Check (8 * length bytes) (gives told) (onFrom bytes at) records values
+
+-- a record, after which the stream goes on
+pub record Ahead (bytes : List ℕ) (at : ℕ) : Type 0 where
+  pub entry : Records.Record
+  pub rest : List Bool
+  pub takes : Takes anyRecord (onFrom bytes at) entry rest
+  pub on : GoesOn bytes (toldBit (8 * length bytes) rest)
 
 -- the reader's 7
 abbrev pub OtherKind : Read → Type 0

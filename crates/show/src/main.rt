@@ -10,6 +10,7 @@ ghost use Rattle.show.specs.Steps.{Begins};
 use bits::BitPos;
 use limits::LONGEST_BUFFER;
 use limits::LONGEST_LIST;
+use lines::LONGEST_LINE;
 use read_streams::Checked;
 use records::Line;
 
@@ -18,19 +19,16 @@ mod records;
 // One byte more than a stream may have: so a longer one is known by its length, and is not read on.
 const INPUT: usize = LONGEST_BUFFER + 1;
 
-// At most 12 bytes for each value, and some for the heading.
-const LINE: usize = 12 * LONGEST_LIST + 64;
-
 fn room() -> [u8; INPUT]
     ensures { λ r. ⌜ longestBuffer + 1 ≡ length r ⌝ }
 {
     [0; INPUT]
 }
 
-fn room_for_a_line() -> [u8; LINE]
+fn room_for_a_line() -> [u8; LONGEST_LINE]
     ensures { λ r. ⌜ longestLine ≡ length r ⌝ }
 {
-    [0; LINE]
+    [0; LONGEST_LINE]
 }
 
 // How it begins: with a stream, or with so many bytes of a line that tells why there is none.
@@ -65,12 +63,12 @@ fn print(s: &[u8], values: &mut [u32], corrections: &mut [i32], out: &mut [u8])
     requires { ⌜ GoesOn (now s) 0 × (longestLine ≤ length (now out)) ⌝ }
     requires { ⌜ (longestList ≤ length (now values)) × (longestList ≤ length (now corrections)) ⌝ }
 {
-    let mut at = 0;
+    let mut at = BitPos::new(0);
     loop {
-        match records::step(s, BitPos::new(at), values, corrections, out) {
+        match records::step(s, at, values, corrections, out) {
             Line::More(bytes, after) => {
                 write(out, bytes);
-                at = after.bit();
+                at = after;
             }
             Line::Last(bytes) => {
                 write(out, bytes);

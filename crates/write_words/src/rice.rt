@@ -2,13 +2,14 @@
 ghost use mathlib.Core.Path.{_≡_};
 ghost use Prim.Native.Nat.{_≤_};
 ghost use lib.ListN.{length};
+ghost use Rattle.format.specs.Limits.{largestParameter};
 ghost use Rattle.format.specs.Codes.{Word, rice};
 ghost use Rattle.pen.specs.Pen.{Room, Drawn};
 use bits::small::power;
 use pen::Pen;
 
 pub fn count(k: usize, w: u32) -> u64
-    requires { ⌜ Word w × (k ≤ 31) ⌝ }
+    requires { ⌜ Word w × (k ≤ largestParameter) ⌝ }
     ensures { λ r. ⌜ (r ≡ length (rice k w)) × (r ≤ 4294967326) ⌝ }
 {
     let zeros = (w - 1) >> k;
@@ -16,7 +17,7 @@ pub fn count(k: usize, w: u32) -> u64
 }
 
 pub fn write(buf: &mut [u8], pen: Pen, k: usize, w: u32) -> Pen
-    requires { ⌜ Word w × Room (rice k w) (now buf) pen × (k ≤ 31) ⌝ }
+    requires { ⌜ Word w × Room (rice k w) (now buf) pen × (k ≤ largestParameter) ⌝ }
     ensures { λ r. ⌜ Drawn (rice k w) (now (buf .entry)) pen (now (buf .exit)) r ⌝ }
 {
     let zeros = ((w - 1) >> k) as usize;

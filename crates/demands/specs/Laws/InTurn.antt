@@ -129,6 +129,18 @@ begins-with (q ∷ qs) (s ∷ ss) f =
     let b = begins-with qs ss (f .1) in
     record { first = s ∷ b .first; more = b .more; whole = ap (λ (l : List Call). s ∷ l) (b .whole); as-many = ap suc (b .as-many); same = (f .0, b .same) }
 
+-- and back: nothing of it can be left out
+pub begins-first : {qs ss : List Call} → BeginsWith qs ss → FirstOf qs ss × (length qs ≤ length ss)
+begins-first {qs} {ss} b =
+    let long = length-append (b .first) (b .more) in
+    let many = b .as-many in
+    (subst (FirstOf qs) (sym (b .whole)) (first-more qs (b .first) (b .more) (b .same)), subst (λ (l : List Call). length qs ≤ length l) (sym (b .whole)) (omega arith))
+  where
+    first-more : (qs first more : List Call) → FirstOf qs first → FirstOf qs (first ++ more)
+    first-more [] first more f = tt
+    first-more (q ∷ qs) [] more f = absurd f
+    first-more (q ∷ qs) (s ∷ first) more f = (f .0, first-more qs first more (f .1))
+
 -- "If the bits of the first sequence are the beginning of the bits of the second, then the records of the first are the first records of
 -- the second, in code, kind, parameter, number, order and every value."
 pub written-first : {qs ss : List Call} {bytes bytes′ after after′ : List ℕ} {start start′ next next′ : ℕ} → WrittenInTurn qs bytes start after next → WrittenInTurn ss bytes′ start′ after′ next′

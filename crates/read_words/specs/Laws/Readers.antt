@@ -14,7 +14,8 @@ use Rattle.layout.specs.Laws.Bits.{inBits-mod}
 use Rattle.layout.specs.Laws.Parts.{Parts}
 use Rattle.format.specs.Limits.{largestWord}
 use Rattle.format.specs.Codes.{Word, size, binary, gamma, delta, rice}
-use Rattle.format.specs.Laws.Digits.{Held, held-one, digits-le}
+use Rattle.format.specs.Restated.{Held}
+use Rattle.format.specs.Laws.Digits.{held-one, digits-le}
 use Rattle.format.specs.Laws.Codes.{sized, lead, gamma-is, rice-is, gamma-free, run-splits, below-size}
 use Rattle.read_words.specs.Told.{Upto, run, Among, Upward}
 

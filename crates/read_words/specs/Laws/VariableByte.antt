@@ -14,7 +14,8 @@ use Rattle.layout.specs.Laws.Bits.{inBits-split, inBits-mod, inBits-one}
 use Rattle.layout.specs.Laws.Parts.{Parts}
 use Rattle.format.specs.Limits.{largestWord, wordGroups}
 use Rattle.format.specs.Codes.{Word, digits, another, groups, variableByte}
-use Rattle.format.specs.Laws.Digits.{Held, held-one}
+use Rattle.format.specs.Restated.{Held}
+use Rattle.format.specs.Laws.Digits.{held-one}
 use Rattle.format.specs.Laws.Codes.{grouped-word}
 use Rattle.bits.specs.Cursor.{Within, left, to, Taken}
 use Rattle.bits.specs.declared.BitPos.{BitPos}

@@ -32,7 +32,7 @@ use Rattle.read_records.specs.declared.Read.{Read}
 use Rattle.read_records.specs.declared.Read.the-variants.{Record, End, Refused}
 use Rattle.read_entries.specs.Reads.{ReadsInto}
 use Rattle.show.specs.Next as Next
-use Rattle.show.specs.Next.{onFrom, GoesOn, OtherKind}
+use Rattle.show.specs.Next.{onFrom, GoesOn, Ahead, OtherKind}
 
 -- ---- where what is left begins
 
@@ -64,13 +64,6 @@ goes-first bytes told (Reading.checked small check) =
       told = told;
       check = subst (λ (w : List Bool). Check (8 * length bytes) (gives told) w 0 0) (sym (take-all (8 * length bytes) (bitsOf bytes) (omega (arith, length-bitsOf bytes)))) check;
     }
-
--- a record, after which the stream goes on
-pub record Ahead (bytes : List ℕ) (at : ℕ) : Type 0 where
-  pub entry : Records.Record
-  pub rest : List Bool
-  pub takes : Takes anyRecord (onFrom bytes at) entry rest
-  pub on : GoesOn bytes (toldBit (8 * length bytes) rest)
 
 pub ahead : {bytes : List ℕ} {at : ℕ} → GoesOn bytes at → Ahead bytes at ⊎ ((rest : List Bool) × (onFrom bytes at ≡ endMark ++ rest))
 ahead {bytes} {at} g = go (g .records) (g .values) (g .check)

@@ -10,8 +10,8 @@ use Rattle.format.specs.Kinds.{Plain, Instants, Corrections, Unsigned, Signed}
 use Rattle.format.specs.Answers.{Told}
 use Rattle.lists.specs.Laws.Tests.{holds-if, fails-if}
 use Rattle.read_entries.specs.Reads.{ReadsInto}
-use Rattle.show.specs.Next.{OtherKind}
-use Rattle.show.specs.Laws.Next.{Ahead, settled, other, last-kind}
+use Rattle.show.specs.Next.{Ahead, OtherKind}
+use Rattle.show.specs.Laws.Next.{settled, other, last-kind}
 use Rattle.show.proofs.records.next.Statement.{statement}
 use Rattle.show.proofs.records.next.Tie as tie
 
