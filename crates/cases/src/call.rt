@@ -5,7 +5,7 @@ use crate::{memory, say, words};
 use bits::BitPos;
 
 // The numbers of a case, and those that may be positions or a place as such.
-#[derive(Drop)]
+#[derive(Clone, Copy)]
 struct Numbers {
     first: u32,
     second: u32,

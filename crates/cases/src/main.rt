@@ -1,5 +1,7 @@
 // Runs the cases that standard input lists, one on a line, and prints each line again with what comes back. The gate compares that
 // with the file stdout.
+#![tactic(auto)]
+
 mod call;
 mod case;
 mod entry;

@@ -2,7 +2,7 @@
 ghost use Rattle.std.specs.Prelude.{◌≤◌, length};
 
 // What is read of an item: a number, the sign before it if there is one, and after a star how many times it is given.
-#[derive(Drop)]
+#[derive(Clone, Copy)]
 struct Given {
     value: u64,
     sign: u8,

@@ -1,4 +1,6 @@
 // What n instants that are all t add up to.
+#![tactic(auto)]
+
 ghost use Rattle.std.specs.Prelude.{◌≡◌, ℕ, ◌≤◌, replicate};
 ghost use Rattle.equal_instants.specs.Sums.{total, at_place, is_below};
 

@@ -1,4 +1,6 @@
 // Each answer of an entry flattened into a struct, because C has no enum that carries numbers.
+#![tactic(auto)]
+
 ghost use Rattle.std.specs.Prelude.{◌≡◌};
 ghost use Rattle.find_in_records.specs.Told.{looked_up, looked_up_correction, searched};
 ghost use Rattle.read_streams.specs.Told.{checked};
@@ -15,7 +17,7 @@ use writing::Wrote;
 
 // What a writer answers: document 01's number, and what it tells.
 #[repr(C)]
-#[derive(Drop)]
+#[derive(Clone, Copy)]
 pub struct Written {
     pub answer: u32,
     pub told: u64,
@@ -23,7 +25,7 @@ pub struct Written {
 
 // What a reader answers. The heading is that of the record; an end mark and a refusal have none.
 #[repr(C)]
-#[derive(Drop)]
+#[derive(Clone, Copy)]
 pub struct Record {
     pub answer: u32,
     pub told: u64,
@@ -35,7 +37,7 @@ pub struct Record {
 }
 
 #[repr(C)]
-#[derive(Drop)]
+#[derive(Clone, Copy)]
 pub struct Value {
     pub answer: u32,
     pub told: u64,
@@ -43,7 +45,7 @@ pub struct Value {
 }
 
 #[repr(C)]
-#[derive(Drop)]
+#[derive(Clone, Copy)]
 pub struct Correction {
     pub answer: u32,
     pub told: u64,
@@ -51,7 +53,7 @@ pub struct Correction {
 }
 
 #[repr(C)]
-#[derive(Drop)]
+#[derive(Clone, Copy)]
 pub struct Place {
     pub answer: u32,
     pub told: u64,
@@ -59,7 +61,7 @@ pub struct Place {
 }
 
 #[repr(C)]
-#[derive(Drop)]
+#[derive(Clone, Copy)]
 pub struct Stream {
     pub answer: u32,
     pub told: u64,

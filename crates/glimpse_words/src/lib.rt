@@ -1,5 +1,7 @@
 // Words that lie whole in the first 57 of the 64 bits of n, found by one look at them. The answer is the word times 64 and the number of its
 // bits; it is 0 where the look does not settle it, because the word is long, cut short or bad.
+#![tactic(auto)]
+
 ghost use Rattle.std.specs.Prelude.{◌≡◌, ◌+◌, ◌*◌, ◌≤◌, ◌<◌};
 ghost use Rattle.format.specs.Limits.{largest_word, largest_parameter};
 ghost use Rattle.format.specs.Codes.{gamma, delta, rice, variable_byte};

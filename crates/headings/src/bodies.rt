@@ -7,7 +7,7 @@ ghost use Rattle.headings.specs.Bodies.{ToldBody, InstantsIf, NotIfSigned};
 use crate::{Code, Kind};
 
 // The codes that lay a list out word by word.
-#[derive(Drop)]
+#[derive(Clone, Copy)]
 pub enum Words {
     Gamma,
     Delta,
@@ -16,7 +16,7 @@ pub enum Words {
 }
 
 // Word by word, or by halves.
-#[derive(Drop)]
+#[derive(Clone, Copy)]
 pub enum Body {
     ByWords(Words),
     ByHalves,

@@ -1,4 +1,6 @@
 // A record's heading: the chosen code, which carries its parameter where it has one, and the kind of list.
+#![tactic(auto)]
+
 ghost use Rattle.std.specs.Prelude.{◌≡◌, ◌≤◌};
 ghost use Rattle.format.specs.Kinds.{kind_number};
 ghost use Rattle.format.specs.Records.{code_number};
@@ -8,7 +10,7 @@ use limits::LARGEST_PARAMETER;
 
 pub mod bodies;
 
-#[derive(Drop)]
+#[derive(Clone, Copy)]
 pub enum Code {
     Gamma,
     Delta,
@@ -17,35 +19,35 @@ pub enum Code {
     Interpolative,
 }
 
-#[derive(Drop)]
+#[derive(Clone, Copy)]
 pub enum Kind {
     Plain,
     Instants,
     Corrections,
 }
 
-#[derive(Drop)]
+#[derive(Clone, Copy)]
 pub struct Heading {
     pub code: Code,
     pub kind: Kind,
 }
 
 // The code of a number and a parameter.
-#[derive(Drop)]
+#[derive(Clone, Copy)]
 pub enum CodeChoice {
     Is(Code),
     Unknown,
 }
 
 // The kind of a number.
-#[derive(Drop)]
+#[derive(Clone, Copy)]
 pub enum KindChoice {
     Is(Kind),
     Unknown,
 }
 
 // The heading that a caller asks for.
-#[derive(Drop)]
+#[derive(Clone, Copy)]
 pub enum Choice {
     Is(Heading),
     Unknown,

@@ -1,4 +1,6 @@
 // The body of code 5, judged and kept in an own list.
+#![tactic(auto)]
+
 ghost use Rattle.std.specs.Prelude.{◌≡◌, map, ◌+◌, ◌-◌, ◌*◌, ◌≤◌, ◌<◌, pos, length, set};
 ghost use Rattle.format.specs.Limits.{longest_buffer, longest_list, largest_instant};
 ghost use Rattle.format.specs.Codes.{Word};

@@ -1,5 +1,7 @@
 // A record, the end of a stream and a refusal, each as a line of text at the start of a lent buffer. Each function answers how many bytes
 // the line has.
+#![tactic(auto)]
+
 ghost use Rattle.std.specs.Prelude.{[], ◌∷◌, map, ◌+◌, ◌*◌, ◌≤◌, pos, length};
 ghost use Rattle.format.specs.Limits.{longest_list};
 ghost use Rattle.format.specs.Kinds.{kind_number};

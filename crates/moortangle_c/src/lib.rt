@@ -1,4 +1,6 @@
 // The C boundary: each entry under its C name, its answer as a struct.
+#![tactic(auto)]
+
 ghost use Rattle.std.specs.Prelude.{◌≡◌};
 
 use bits::BitPos;

@@ -1,4 +1,6 @@
 // A word of whichever code of words a list has, read at a cursor, or told by one look at its bits.
+#![tactic(auto)]
+
 ghost use Rattle.std.specs.Prelude.{◌*◌, ◌≤◌, ◌<◌, length};
 ghost use Rattle.format.specs.Limits.{longest_buffer};
 ghost use Rattle.format.specs.Codes.{Word};

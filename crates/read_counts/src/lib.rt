@@ -1,4 +1,6 @@
 // A record's count, read at a cursor and judged.
+#![tactic(auto)]
+
 ghost use Rattle.std.specs.Prelude.{length};
 ghost use Rattle.bits.specs.Cursor.{Within};
 ghost use Rattle.read_counts.specs.Told.{ToldCountField};
@@ -9,7 +11,7 @@ use read_words::{Read, gamma};
 use reading::Refusal;
 
 // The count, and the cursor after it. A refusal is told at its first bit.
-#[derive(Drop)]
+#[derive(Clone, Copy)]
 pub enum CountField {
     Is(usize, Cursor),
     No(Refusal),

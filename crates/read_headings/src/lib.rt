@@ -1,4 +1,6 @@
 // A record's heading, read at a cursor: code, kind, Rice's k and the count, each judged as it comes; or an end mark.
+#![tactic(auto)]
+
 ghost use Rattle.std.specs.Prelude.{length};
 ghost use Rattle.headings.specs.Headings.{code_of};
 ghost use Rattle.bits.specs.Cursor.{Within};
@@ -13,7 +15,7 @@ use reading::Refusal;
 use wanted::Wanted;
 
 // What stands at a cursor: a heading with its count, before the body; an end mark; or neither.
-#[derive(Drop)]
+#[derive(Clone, Copy)]
 pub enum Begun {
     Body(Heading, usize, Cursor),
     End(Cursor),
@@ -21,20 +23,20 @@ pub enum Begun {
 }
 
 // Each field, and the cursor after it. A refusal is told at the field's first bit.
-#[derive(Drop)]
+#[derive(Clone, Copy)]
 enum CodeField {
     Is(Code, Cursor),
     End(Cursor),
     No(Refusal),
 }
 
-#[derive(Drop)]
+#[derive(Clone, Copy)]
 enum KindField {
     Is(Kind, Cursor),
     No(Refusal),
 }
 
-#[derive(Drop)]
+#[derive(Clone, Copy)]
 enum ParameterField {
     Is(Code, Cursor),
     Cut,

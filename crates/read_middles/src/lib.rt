@@ -1,4 +1,6 @@
 // A middle element of code 5, read at a bit; and what one number as the answer says beyond the stop.
+#![tactic(auto)]
+
 ghost use Rattle.std.specs.Prelude.{◌≡◌, ◌+◌, ◌-◌, ◌*◌, ◌/◌, ◌%◌, ◌^◌, ◌≤◌, ◌<◌, length};
 ghost use Rattle.format.specs.Limits.{longest_buffer, longest_list, largest_word};
 ghost use Rattle.reading.specs.Refusals.{refusal_number};
@@ -8,7 +10,7 @@ use bits::{BitPos, length, number};
 use reading::Refusal;
 
 // A middle element, and the bit after its offset; or beyond the stop a refusal: its number times 2^32, and its bit.
-#[derive(Drop)]
+#[derive(Clone, Copy)]
 pub struct Middle {
     pub element: usize,
     pub next: usize,

@@ -1,4 +1,6 @@
 // The body of a record of corrections: judged without a list, and kept in an own one.
+#![tactic(auto)]
+
 ghost use Rattle.std.specs.Prelude.{◌≡◌, ◌≤◌, length};
 ghost use Rattle.format.specs.Limits.{longest_list};
 ghost use Rattle.format.specs.Kinds.{Corrections};

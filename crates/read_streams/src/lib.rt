@@ -1,4 +1,6 @@
 // A whole stream: any number of records of both families, the end mark, and zeros to the byte's end.
+#![tactic(auto)]
+
 ghost use Rattle.std.specs.Prelude.{◌≤◌, length};
 ghost use Rattle.format.specs.Limits.{longest_list};
 ghost use Rattle.format.specs.Kinds.{Unsigned, Signed};
@@ -17,14 +19,14 @@ use reading::{Judged, JudgedCorrections, Refusal};
 use wanted::Wanted;
 
 // What the stream check answers: the number of records and of values.
-#[derive(Drop)]
+#[derive(Clone, Copy)]
 pub enum Checked {
     Stream(usize, usize),
     Refused(Refusal, BitPos),
 }
 
 // A body judged, for whoever asks no more of it than where it ends.
-#[derive(Drop)]
+#[derive(Clone, Copy)]
 enum Passed {
     After(Cursor),
     No(Refusal, BitPos),

@@ -1,4 +1,6 @@
 // The body of a record of plain values or of instants that is read word by word: judged without a list, and kept in an own one.
+#![tactic(auto)]
+
 ghost use Rattle.std.specs.Prelude.{◌≡◌, [], ◌∷◌, map, ◌+◌, ◌≤◌, ◌<◌, pos, length};
 ghost use Rattle.format.specs.Limits.{longest_list};
 ghost use Rattle.format.specs.Reading.{below};

@@ -13,7 +13,7 @@ use read_words::Read;
 use reading::Refusal;
 
 // A correction formed of a word, or why it is none.
-#[derive(Drop)]
+#[derive(Clone, Copy)]
 pub enum Correction {
     Is(i32, Cursor),
     No(Refusal, BitPos),

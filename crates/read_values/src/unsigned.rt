@@ -16,7 +16,7 @@ use reading::Refusal;
 const LARGEST_INSTANT: u64 = limits::LARGEST_INSTANT as u64;
 
 // A value formed of a word, or why it is none.
-#[derive(Drop)]
+#[derive(Clone, Copy)]
 pub enum Value {
     Is(u32, Cursor),
     No(Refusal, BitPos),

@@ -1,4 +1,6 @@
 // A word of each code, read at a cursor: the word and the cursor after it, that it is cut short, or the exact bit at which it dies.
+#![tactic(auto)]
+
 use bits::{BitPos, Cursor};
 
 pub mod delta;
@@ -8,7 +10,7 @@ pub mod rice;
 pub mod variable_byte;
 
 // What reading a word answers. Bad tells the first bit at which the bits can no longer be the beginning of any valid word.
-#[derive(Drop)]
+#[derive(Clone, Copy)]
 pub enum Read {
     Took(u32, Cursor),
     Cut,

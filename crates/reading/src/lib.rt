@@ -1,4 +1,6 @@
 // What reading at a cursor comes to: where a reader reads, why it refuses, and how far it has come.
+#![tactic(auto)]
+
 ghost use Rattle.std.specs.Prelude.{◌≡◌};
 ghost use Rattle.reading.specs.Refusals.{refusal_number};
 
@@ -7,7 +9,7 @@ use bits::{BitPos, Cursor};
 pub mod place;
 
 // Why a reader refuses: document 01's answers 5 to 13.
-#[derive(Drop)]
+#[derive(Clone, Copy)]
 pub enum Refusal {
     NoRoom,
     CutShort,
@@ -22,21 +24,21 @@ pub enum Refusal {
 
 // What judging a list of plain values or of instants answers: the value at an asked place, 0 beyond the list, how many are below a
 // sought one, and the cursor after the list; or why it is none.
-#[derive(Drop)]
+#[derive(Clone, Copy)]
 pub enum Judged {
     Whole(u32, usize, Cursor),
     No(Refusal, BitPos),
 }
 
 // The same of corrections, which nobody searches.
-#[derive(Drop)]
+#[derive(Clone, Copy)]
 pub enum JudgedCorrections {
     Whole(i32, Cursor),
     No(Refusal, BitPos),
 }
 
 // What reading a list into an own one answers: the cursor after it; or why it is none.
-#[derive(Drop)]
+#[derive(Clone, Copy)]
 pub enum Kept {
     Whole(Cursor),
     No(Refusal, BitPos),

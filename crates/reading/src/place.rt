@@ -5,7 +5,7 @@ use bits::{BitPos, Cursor};
 use limits::LONGEST_BUFFER;
 
 // A cursor within the buffer, or that the positions are outside document 01's rule.
-#[derive(Drop)]
+#[derive(Clone, Copy)]
 pub enum Placed {
     At(Cursor),
     Outside,

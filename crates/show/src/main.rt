@@ -1,5 +1,7 @@
 // Reads a stream from standard input and prints its records, or why it is no stream. Every line is gathered whole in a lent buffer, and
 // what stands there is stated; then it is written.
+#![tactic(auto)]
+
 ghost use Rattle.std.specs.Prelude.{◌≡◌, ◌+◌, ◌≤◌, length};
 ghost use Rattle.format.specs.Limits.{longest_buffer, longest_list};
 ghost use Rattle.lines.specs.Text.{longest_line};
@@ -30,7 +32,7 @@ fn room_for_a_line() -> [u8; LONGEST_LINE]
 }
 
 // How it begins: with a stream, or with so many bytes of a line that tells why there is none.
-#[derive(Drop)]
+#[derive(Clone, Copy)]
 enum Begun {
     Stream,
     Refused(usize),

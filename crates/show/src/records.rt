@@ -66,7 +66,7 @@ fn record_line(
 }
 
 // How many bytes a line has that was gathered, and the bit where the next one's record begins, unless it is the last line.
-#[derive(Drop)]
+#[derive(Clone, Copy)]
 pub(crate) enum Line {
     More(usize, BitPos),
     Last(usize),

@@ -1,4 +1,6 @@
 // Which kinds a reader takes: the one that it asks for, and with the interpolative code instants alone.
+#![tactic(auto)]
+
 ghost use Rattle.format.specs.Records.{Wants};
 ghost use Rattle.headings.specs.Headings.{code_of, kind_of};
 ghost use Rattle.lists.specs.Tests.{Unless};
@@ -7,7 +9,7 @@ ghost use Rattle.wanted.specs.Wanted.{wanted_of, Goes};
 use headings::{Code, Kind};
 
 // The kind that a reader asks for, or that it takes any.
-#[derive(Drop)]
+#[derive(Clone, Copy)]
 pub enum Wanted {
     Any,
     This(Kind),

@@ -1,4 +1,6 @@
 // The end of a stream, written: a public entry.
+#![tactic(auto)]
+
 ghost use Rattle.format.specs.Writing.{WritesEnd};
 ghost use Rattle.writing.specs.Wrote.{outcome_of};
 

@@ -1,4 +1,6 @@
 // A record written, or not: the public entries.
+#![tactic(auto)]
+
 ghost use Rattle.std.specs.Prelude.{map, pos};
 ghost use Rattle.format.specs.Kinds.{Unsigned, Signed};
 ghost use Rattle.format.specs.Writing.{Writes};

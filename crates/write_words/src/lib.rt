@@ -1,4 +1,6 @@
 // A word of each code: its bits counted without writing them, and written in a buffer.
+#![tactic(auto)]
+
 pub mod by_code;
 pub mod delta;
 pub mod gamma;

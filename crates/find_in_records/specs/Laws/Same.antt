@@ -2,7 +2,7 @@
 use Rattle.std.specs.Prelude.{◌≡◌, Bool, List, ℕ}
 use Rattle.format.specs.Records.{Asked}
 use Rattle.format.specs.Reading.{LookUp, Search}
-use Rattle.format.specs.Laws.Reading.{look_up_one, search_one}
+use Rattle.format.proofs.Laws.Reading.{look_up_one, search_one}
 use Rattle.find_in_records.specs.Told.{looked_up, looked_up_correction, searched}
 use Rattle.find_in_records.specs.Laws.Answers.{looked_up_same, correction_same, searched_same}
 use Rattle.find_in_records.specs.declared.LookedUp.{LookedUp}

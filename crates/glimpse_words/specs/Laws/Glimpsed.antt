@@ -8,11 +8,11 @@ use Rattle.std.proofs.lemmas.Nat.{leading_top, shl-shr}
 use Rattle.std.proofs.Math.Pow.{shr_mono, high, field}
 use Rattle.layout.specs.Bits.{odd, in_bits, zeros}
 use Rattle.layout.specs.Layout.{word}
-use Rattle.layout.specs.Laws.Bits.{val, front_is, in_bits_split, in_bits_cat, in_bits_mod}
-use Rattle.layout.specs.Laws.Windows.{zeros_lead}
+use Rattle.layout.proofs.Laws.Bits.{val, front_is, in_bits_split, in_bits_cat, in_bits_mod}
+use Rattle.layout.proofs.Laws.Windows.{zeros_lead}
 use Rattle.format.specs.Codes.{Word, size, binary, gamma, delta, rice, groups, variable_byte}
-use Rattle.format.specs.Laws.Codes.{sized, grouped_word}
-use Rattle.format.specs.Laws.Digits.{held_one}
+use Rattle.format.proofs.Laws.Codes.{sized, grouped_word}
+use Rattle.format.proofs.Laws.Digits.{held_one}
 use Rattle.bits.specs.Cursor.{Within, left, onward, Taken}
 use Rattle.bits.specs.Laws.Cursor.{length_left, left_front, left_onward, onward_within}
 use Rattle.bits.specs.Look.{Looked}

@@ -7,7 +7,7 @@ use Rattle.format.specs.Codes.{Word}
 use Rattle.format.specs.Kinds as Kinds
 use Rattle.format.specs.Kinds.{Signed, family_of}
 use Rattle.format.specs.Records.{words_by, body}
-use Rattle.format.specs.Laws.Codes.{gamma_free, delta_free, rice_free, variable_byte_free}
+use Rattle.format.proofs.Laws.Codes.{gamma_free, delta_free, rice_free, variable_byte_free}
 use Rattle.headings.specs.Headings.{code_of, carried}
 use Rattle.headings.specs.Bodies.{image_by, Known, code_for, ToldBody, words, halves, InstantsIf, NotIfSigned}
 use Rattle.headings.specs.declared.Code.{Code}

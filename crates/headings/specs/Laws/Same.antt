@@ -6,9 +6,9 @@ use Rattle.format.specs.Kinds as Kinds
 use Rattle.format.specs.Kinds.{Family}
 use Rattle.format.specs.Records as Records
 use Rattle.format.specs.Writing.{parameter_of}
-use Rattle.format.specs.Laws.Kinds as OfKinds
-use Rattle.format.specs.Laws.Records as OfRecords
-use Rattle.format.specs.Laws.Reading.{told_one}
+use Rattle.format.proofs.Laws.Kinds as OfKinds
+use Rattle.format.proofs.Laws.Records as OfRecords
+use Rattle.format.proofs.Laws.Reading.{told_one}
 use Rattle.lists.specs.Judged.{unsigned_kind}
 use Rattle.headings.specs.declared.Code.{Code}
 use Rattle.headings.specs.declared.Code.TheVariants.{Gamma, Delta, Rice, VariableByte, Interpolative}

@@ -1,5 +1,5 @@
 use Prim.Native.Nat.{◌-◌, ◌/◌}
-use Rattle.format.specs.Laws.Parts.{node}
+use Rattle.format.proofs.Laws.Parts.{node}
 use Rattle.read_middles.specs.Laws.Next.{lies}
 use Rattle.read_middles.specs.Laws.Parts.{middle_halts, middle_alone, left_halts, both_halves}
 use Rattle.judge_interpolative.specs.Laws.Parts.{told_none, told_determined, sums_alone, sums_both}

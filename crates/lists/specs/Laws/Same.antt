@@ -2,7 +2,7 @@
 use Rattle.std.specs.Prelude.{◌≡◌, refl, List, ℤ}
 use Rattle.std.proofs.Common.{ap, arith}
 use Rattle.format.specs.Kinds.{Kind}
-use Rattle.format.specs.Laws.Writing.{faulty_list, faulty_one}
+use Rattle.format.proofs.Laws.Writing.{faulty_list, faulty_one}
 use Rattle.lists.specs.Judged.{ToldList, fine, range, falls}
 use Rattle.lists.specs.declared.Judged.{Judged}
 use Rattle.lists.specs.declared.Judged.TheVariants.{Range, Falls}

@@ -5,9 +5,9 @@ use Rattle.format.specs.Kinds.{Family, Unsigned, Signed}
 use Rattle.format.specs.Answers.{Outcome}
 use Rattle.format.specs.Reading.{Item, Reads, LooksUp, Searches, Checks}
 use Rattle.format.specs.Writing.{Writes, WritesEnd}
-use Rattle.format.specs.Laws.Reading.{reads_one, looks_up_one, searches_one, checks_one}
-use Rattle.format.specs.Laws.Writing.{writes_one, writes_end_one}
-use Rattle.format.specs.Laws.Outcomes.{reads_accepted}
+use Rattle.format.proofs.Laws.Reading.{reads_one, looks_up_one, searches_one, checks_one}
+use Rattle.format.proofs.Laws.Writing.{writes_one, writes_end_one}
+use Rattle.format.proofs.Laws.Outcomes.{reads_accepted}
 use Rattle.headings.specs.Headings.{headed}
 use Rattle.reading.specs.Laws.Naturals.{naturals_one}
 use Rattle.read_records.specs.declared.Read.{Read}

@@ -10,8 +10,8 @@ use Rattle.std.proofs.Math.Seq.{split_at}
 use Rattle.std.proofs.lemmas.List.{set_split}
 use Rattle.std.specs.Int.{w8}
 use Rattle.layout.specs.Bits.{Bytes, in_bits, bits_of, put}
-use Rattle.layout.specs.Laws.Bits.{length_in_bits, in_bits_low, in_bits_cat, length_bits_of}
-use Rattle.layout.specs.Laws.Windows.{put_step}
+use Rattle.layout.proofs.Laws.Bits.{length_in_bits, in_bits_low, in_bits_cat, length_bits_of}
+use Rattle.layout.proofs.Laws.Windows.{put_step}
 use Rattle.bits.specs.Laws.Bytes.{before, length_before, at_byte, chunk}
 
 -- b, with the w bits above the lowest k replaced by those of v

@@ -6,7 +6,7 @@ use Rattle.format.specs.Kinds as Kinds
 use Rattle.format.specs.Kinds.{Kind, Family, family_of, kind_number, Signed}
 use Rattle.format.specs.Records as Records
 use Rattle.format.specs.Records.{Asked, This, words_by, body}
-use Rattle.format.specs.Laws.Bodies.{body_list}
+use Rattle.format.proofs.Laws.Bodies.{body_list}
 use Rattle.bits.specs.Cursor.{Taken}
 use Rattle.bits.specs.declared.Cursor.{Cursor}
 use Rattle.headings.specs.Headings.{code_of, carried, kind_of}

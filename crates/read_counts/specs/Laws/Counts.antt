@@ -4,7 +4,7 @@ use Rattle.std.proofs.Common.{arith}
 use Rattle.layout.specs.Layout.{word, only}
 use Rattle.format.specs.Limits.{longest_list}
 use Rattle.format.specs.Codes.{Word, gamma}
-use Rattle.format.specs.Laws.Codes.{gamma_free}
+use Rattle.format.proofs.Laws.Codes.{gamma_free}
 use Rattle.bits.specs.Cursor.{Within, Taken}
 use Rattle.bits.specs.declared.BitPos.{BitPos}
 use Rattle.bits.specs.declared.Cursor.{Cursor}

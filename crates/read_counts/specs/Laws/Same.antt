@@ -1,7 +1,7 @@
 -- Two answers that satisfy the contract of a count's reader are equal.
 use Rattle.std.specs.Prelude.{◌≡◌, List, ℕ, length}
 use Rattle.std.proofs.Common.{ap}
-use Rattle.format.specs.Laws.Records.{count_sound}
+use Rattle.format.proofs.Laws.Records.{count_sound}
 use Rattle.bits.specs.Cursor.{Within}
 use Rattle.bits.specs.declared.Cursor.{Cursor}
 use Rattle.reading.specs.Laws.Steps.{no_taken, taken_one}

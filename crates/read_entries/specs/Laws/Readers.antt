@@ -2,7 +2,7 @@
 use Rattle.std.specs.Prelude.{◌≡◌, refl, Bool, List, ℕ, ◌*◌, ◌≤◌, ◌<◌, ℤ, length}
 use Rattle.std.proofs.Common.{sym, ap₂, ◌∙◌, subst, subst₂, arith, take_all}
 use Rattle.layout.specs.Bits.{bits_of, window}
-use Rattle.layout.specs.Laws.Bits.{length_bits_of}
+use Rattle.layout.proofs.Laws.Bits.{length_bits_of}
 use Rattle.format.specs.Limits.{longest_buffer}
 use Rattle.format.specs.Kinds as Kinds
 use Rattle.format.specs.Kinds.{Kind, Family, Signed}

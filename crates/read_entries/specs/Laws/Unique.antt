@@ -2,7 +2,7 @@
 use Rattle.std.specs.Prelude.{◌≡◌, List, map, ℕ, ℤ, pos}
 use Rattle.format.specs.Kinds.{Family, Unsigned, Signed}
 use Rattle.format.specs.Reading.{LooksUp, Searches, Checks}
-use Rattle.format.specs.Laws.Reading.{reads_one, looks_up_one, searches_one, checks_one}
+use Rattle.format.proofs.Laws.Reading.{reads_one, looks_up_one, searches_one, checks_one}
 use Rattle.reading.specs.Laws.Naturals.{naturals_one}
 use Rattle.read_records.specs.Told.{item_of}
 use Rattle.find_in_records.specs.Told.{looked_up, looked_up_correction, searched}

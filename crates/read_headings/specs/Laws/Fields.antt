@@ -3,15 +3,15 @@ use Rattle.std.specs.Prelude.{◌≡◌, refl, Bool, true, false, List, ◌++◌
 use Rattle.std.proofs.Common.{sym, ap, ◌∙◌, subst, arith, length-append}
 use Rattle.layout.specs.Bits.{in_bits}
 use Rattle.layout.specs.Layout.{Takes, FixedNo, short, fixed}
-use Rattle.layout.specs.Laws.Bits.{in_bits_one, in_bits_zero}
+use Rattle.layout.proofs.Laws.Bits.{in_bits_one, in_bits_zero}
 use Rattle.format.specs.Kinds as Kinds
 use Rattle.format.specs.Kinds.{kind_number}
 use Rattle.format.specs.Records as Records
 use Rattle.format.specs.Records.{code_number, Wants, code_field, parameter_field}
 use Rattle.format.specs.Streams.{end_mark}
 use Rattle.format.specs.Reading.{NoEnd}
-use Rattle.format.specs.Laws.Kinds.{kind_one}
-use Rattle.format.specs.Laws.Records.{code_one, code_range}
+use Rattle.format.proofs.Laws.Kinds.{kind_one}
+use Rattle.format.proofs.Laws.Records.{code_one, code_range}
 use Rattle.bits.specs.Cursor.{Within, left, Taken, Refuses, ToldField}
 use Rattle.bits.specs.Laws.Cursor.{field_taken}
 use Rattle.bits.specs.declared.Cursor.{Cursor}

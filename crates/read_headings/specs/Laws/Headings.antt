@@ -7,8 +7,8 @@ use Rattle.format.specs.Kinds as Kinds
 use Rattle.format.specs.Records as Records
 use Rattle.format.specs.Records.{Asked, code_field, kind_field, parameter_field, count_field, body, fields, record_for}
 use Rattle.format.specs.Reading.{NoEnd}
-use Rattle.format.specs.Laws.Bodies.{body_list}
-use Rattle.format.specs.Laws.Records.{code_range}
+use Rattle.format.proofs.Laws.Bodies.{body_list}
+use Rattle.format.proofs.Laws.Records.{code_range}
 use Rattle.bits.specs.Cursor.{Within, left, Taken, Refuses}
 use Rattle.bits.specs.declared.BitPos.{BitPos}
 use Rattle.bits.specs.declared.Cursor.{Cursor}

@@ -3,13 +3,13 @@ use Rattle.std.specs.Prelude.{◌≡◌, Bool, List, ℕ, length}
 use Rattle.std.proofs.Common.{ap, ◌∙◌, append_assoc}
 use Rattle.layout.specs.Layout.{Takes}
 use Rattle.layout.specs.Sound.{Sound}
-use Rattle.layout.specs.Laws.Sound.{fixed_sound, known_sound, bind_sound, only_sound}
+use Rattle.layout.proofs.Laws.Sound.{fixed_sound, known_sound, bind_sound, only_sound}
 use Rattle.format.specs.Kinds as Kinds
 use Rattle.format.specs.Records as Records
 use Rattle.format.specs.Records.{Asked, code_field}
 use Rattle.format.specs.Reading.{NoEnd}
-use Rattle.format.specs.Laws.Kinds.{kind_one}
-use Rattle.format.specs.Laws.Records.{code_one, parameter_sound, count_sound}
+use Rattle.format.proofs.Laws.Kinds.{kind_one}
+use Rattle.format.proofs.Laws.Records.{code_one, parameter_sound, count_sound}
 use Rattle.bits.specs.Cursor.{Within, left}
 use Rattle.bits.specs.declared.Cursor.{Cursor}
 use Rattle.headings.specs.Laws.Same.{heading_one}

@@ -3,10 +3,10 @@ use Rattle.std.specs.Prelude.{◌≡◌, refl, List, ℕ, ◌+◌, ◌-◌, ◌�
 use Rattle.std.proofs.Common.{◌∙◌, subst, inl, inr, arith}
 use Rattle.layout.specs.Bits.{bits_of}
 use Rattle.layout.specs.Layout.{fixed}
-use Rattle.layout.specs.Laws.Bits.{val}
+use Rattle.layout.proofs.Laws.Bits.{val}
 use Rattle.format.specs.Codes.{size}
 use Rattle.format.specs.Interpolative.{width, offset}
-use Rattle.format.specs.Laws.Parts.{width_size}
+use Rattle.format.proofs.Laws.Parts.{width_size}
 use Rattle.bits.specs.Cursor.{Within, Taken, Refuses}
 use Rattle.bits.specs.Laws.Cursor.{field_took, field_cut}
 use Rattle.reading.specs.Laws.Steps.{taken_only, no_field, no_value}

@@ -3,7 +3,7 @@ use Rattle.std.specs.Prelude.{◌≡◌, List, [], ◌∷◌, ◌++◌, ℕ, ◌
 use Rattle.std.proofs.Common.{sym, ap, ◌∙◌, subst, arith, length-append}
 use Rattle.layout.specs.Layout.{Layout, bind}
 use Rattle.format.specs.Interpolative.{offset, middle, part}
-use Rattle.format.specs.Laws.Parts.{Node, part_none, part_node, part_length, middle_join}
+use Rattle.format.proofs.Laws.Parts.{Node, part_none, part_node, part_length, middle_join}
 use Rattle.bits.specs.Cursor.{Within, Taken, Refuses}
 use Rattle.bits.specs.declared.BitPos.{BitPos}
 use Rattle.bits.specs.declared.Cursor.{Cursor}

@@ -4,7 +4,7 @@ use Rattle.std.proofs.Common.{sym, ap, ap₂, ◌∙◌, inl, inr, arith}
 use Rattle.layout.specs.Layout.{Layout}
 use Rattle.layout.specs.Sound.{Sound}
 use Rattle.format.specs.Interpolative.{offset}
-use Rattle.format.specs.Laws.Parts.{offset_sound}
+use Rattle.format.proofs.Laws.Parts.{offset_sound}
 use Rattle.bits.specs.Cursor.{Within, left, to}
 use Rattle.bits.specs.declared.Cursor.{Cursor}
 use Rattle.reading.specs.Laws.Steps.{no_taken, taken_one, told_at}

@@ -3,7 +3,7 @@ use Rattle.std.specs.Prelude.{◌≡◌, List, ℕ, ℤ}
 use Rattle.std.proofs.Common.{sym, ap, ◌∙◌}
 use Rattle.format.specs.Kinds.{Kind}
 use Rattle.format.specs.Reading.{filled}
-use Rattle.format.specs.Laws.Reading.{reader_one}
+use Rattle.format.proofs.Laws.Reading.{reader_one}
 use Rattle.bits.specs.declared.Cursor.{Cursor}
 use Rattle.read_records.specs.Told.{ToldRead}
 use Rattle.read_records.specs.Laws.Answers.{item_same}

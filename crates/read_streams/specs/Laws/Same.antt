@@ -2,7 +2,7 @@
 use Rattle.std.specs.Prelude.{◌≡◌, Bool, List, ℕ}
 use Rattle.std.proofs.Common.{ap, ap₂, arith}
 use Rattle.format.specs.Reading.{Check}
-use Rattle.format.specs.Laws.Reading.{check_one}
+use Rattle.format.proofs.Laws.Reading.{check_one}
 use Rattle.reading.specs.Laws.Refusals.{refused_same}
 use Rattle.read_streams.specs.Told.{checked}
 use Rattle.read_streams.specs.declared.Checked.{Checked}

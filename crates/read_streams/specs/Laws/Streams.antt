@@ -3,12 +3,12 @@ use Rattle.std.specs.Prelude.{◌≡◌, refl, Bool, true, false, List, ℕ, ◌
 use Rattle.std.proofs.Common.{sym, ap, ap₂, ◌∙◌, subst, subst₂, le_refl, mod-eq_of_lt, pow_pos, arith, take_all}
 use Rattle.layout.specs.Bits.{bits_of, in_bits}
 use Rattle.layout.specs.Layout.{Layout}
-use Rattle.layout.specs.Laws.Bits.{val, in_bits_val, in_bits_zero, val_in_bits}
+use Rattle.layout.proofs.Laws.Bits.{val, in_bits_val, in_bits_zero, val_in_bits}
 use Rattle.format.specs.Records.{anyone, any_record}
 use Rattle.format.specs.Answers.{refuses, gives, told_bit}
 use Rattle.format.specs.Reading as Reading
 use Rattle.format.specs.Reading.{NoEnd, Padding, Check}
-use Rattle.format.specs.Laws.Marks.{takes_shorter}
+use Rattle.format.proofs.Laws.Marks.{takes_shorter}
 use Rattle.bits.specs.Cursor.{Within, left, to, Taken, Refuses}
 use Rattle.bits.specs.Laws.Cursor.{length_left, left_front}
 use Rattle.bits.specs.declared.BitPos.{BitPos}

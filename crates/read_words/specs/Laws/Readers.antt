@@ -9,14 +9,14 @@ use native.Mathlib.Omega.{arith}
 use Rattle.std.proofs.Math.Pow as Pow
 use Rattle.std.proofs.Math.Pow.{pow_pos, pow_mono, split, shr_mono}
 use Rattle.layout.specs.Bits.{in_bits}
-use Rattle.layout.specs.Laws.Beginnings.{splits_free}
-use Rattle.layout.specs.Laws.Bits.{in_bits_mod}
-use Rattle.layout.specs.Laws.Parts.{Parts}
+use Rattle.layout.proofs.Laws.Beginnings.{splits_free}
+use Rattle.layout.proofs.Laws.Bits.{in_bits_mod}
+use Rattle.layout.proofs.Laws.Parts.{Parts}
 use Rattle.format.specs.Limits.{largest_word}
 use Rattle.format.specs.Codes.{Word, size, binary, gamma, delta, rice}
 use Rattle.format.specs.Restated.{Held}
-use Rattle.format.specs.Laws.Digits.{held_one, digits_le}
-use Rattle.format.specs.Laws.Codes.{sized, lead, gamma_is, rice_is, gamma_free, run_splits, below_size}
+use Rattle.format.proofs.Laws.Digits.{held_one, digits_le}
+use Rattle.format.proofs.Laws.Codes.{sized, lead, gamma_is, rice_is, gamma_free, run_splits, below_size}
 use Rattle.read_words.specs.Told.{Upto, run, Among, Upward}
 
 -- ---- gamma of the words from 1 to top

@@ -4,8 +4,8 @@ use Rattle.std.specs.Prelude.{◌≡◌, refl, Bool, List, ℕ, length}
 use Rattle.std.proofs.Common.{sym, ap, ap₂, ◌∙◌, subst, arith}
 use Rattle.layout.specs.Layout.{PrefixFree, Takes, Stops, word, cut}
 use Rattle.layout.specs.Dead.{Dies}
-use Rattle.layout.specs.Laws.Sound.{takes_one, word_sound, word_apart}
-use Rattle.layout.specs.Laws.Words.{dies_one, dies_bad}
+use Rattle.layout.proofs.Laws.Sound.{takes_one, word_sound, word_apart}
+use Rattle.layout.proofs.Laws.Words.{dies_one, dies_bad}
 use Rattle.bits.specs.Cursor.{Within, left, to}
 use Rattle.bits.specs.Laws.Same.{same_place}
 use Rattle.bits.specs.declared.Cursor.{Cursor}

@@ -5,7 +5,7 @@ use Rattle.format.specs.Limits.{largest_word}
 use Rattle.layout.specs.Bits.{window}
 use Rattle.layout.specs.Layout.{Stops, word}
 use Rattle.layout.specs.Dead.{Dies}
-use Rattle.layout.specs.Laws.Parts.{Parts, first_stops, second_stops, first_dies, second_dies, both_takes}
+use Rattle.layout.proofs.Laws.Parts.{Parts, first_stops, second_stops, first_dies, second_dies, both_takes}
 use Rattle.bits.specs.Cursor.{left, to, Taken}
 use Rattle.bits.specs.declared.BitPos.{BitPos}
 use Rattle.bits.specs.declared.Cursor.{Cursor}

@@ -8,14 +8,14 @@ use native.Mathlib.Omega.{arith}
 use Rattle.layout.specs.Bits.{odd, in_bits}
 use Rattle.layout.specs.Layout.{PrefixFree, Stops, word}
 use Rattle.layout.specs.Dead.{Dies}
-use Rattle.layout.specs.Laws.Beginnings.{splits_free}
-use Rattle.layout.specs.Laws.Bits.{in_bits_split, in_bits_mod, in_bits_one}
-use Rattle.layout.specs.Laws.Parts.{Parts}
+use Rattle.layout.proofs.Laws.Beginnings.{splits_free}
+use Rattle.layout.proofs.Laws.Bits.{in_bits_split, in_bits_mod, in_bits_one}
+use Rattle.layout.proofs.Laws.Parts.{Parts}
 use Rattle.format.specs.Limits.{largest_word, word_groups}
 use Rattle.format.specs.Codes.{Word, digits, another, groups, variable_byte}
 use Rattle.format.specs.Restated.{Held}
-use Rattle.format.specs.Laws.Digits.{held_one}
-use Rattle.format.specs.Laws.Codes.{grouped_word}
+use Rattle.format.proofs.Laws.Digits.{held_one}
+use Rattle.format.proofs.Laws.Codes.{grouped_word}
 use Rattle.bits.specs.Cursor.{Within, left, to, Taken}
 use Rattle.bits.specs.declared.BitPos.{BitPos}
 use Rattle.bits.specs.declared.Cursor.{Cursor}

@@ -2,7 +2,7 @@
 use Rattle.std.specs.Prelude.{◌≡◌, refl, List, [], ◌∷◌, map, ℕ, zero, suc, ℤ, pos, take, drop}
 use Rattle.std.proofs.Common.{sym, ap, ◌∙◌}
 use Rattle.format.specs.Kinds.{natural}
-use Rattle.format.specs.Laws.Bodies.{naturals_back}
+use Rattle.format.proofs.Laws.Bodies.{naturals_back}
 
 pub take_naturals : (n : ℕ) (ns : List ℕ) → map pos (take n ns) ≡ take n (map pos ns)
 take_naturals zero ns = refl

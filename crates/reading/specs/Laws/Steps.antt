@@ -4,7 +4,7 @@ use Rattle.std.proofs.Common.{sym, ap, ◌∙◌, subst, append_assoc, arith}
 use Rattle.layout.specs.Bits.{window}
 use Rattle.layout.specs.Layout.{Layout, known, BindNo, first, second, bind, field, value, only, made}
 use Rattle.layout.specs.Sound.{Sound}
-use Rattle.layout.specs.Laws.Sound.{takes_one}
+use Rattle.layout.proofs.Laws.Sound.{takes_one}
 use Rattle.format.specs.Answers.{told_bit}
 use Rattle.bits.specs.Cursor.{Within, left, to, Taken, Refuses}
 use Rattle.bits.specs.Laws.Cursor.{length_left}

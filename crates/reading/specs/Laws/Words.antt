@@ -1,7 +1,7 @@
 -- What the reader of a word tells, as the word's layout says it: document 01 tells a bad word at its first bit.
 use Rattle.std.specs.Prelude.{◌≡◌, Bool, List, ℕ, length}
 use Rattle.layout.specs.Layout.{PrefixFree, word, cut}
-use Rattle.layout.specs.Laws.Words.{dies_bad}
+use Rattle.layout.proofs.Laws.Words.{dies_bad}
 use Rattle.bits.specs.Cursor.{Within, Refuses}
 use Rattle.bits.specs.declared.BitPos.{BitPos}
 use Rattle.bits.specs.declared.Cursor.{Cursor}

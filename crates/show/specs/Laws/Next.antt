@@ -3,8 +3,8 @@ use Rattle.std.specs.Prelude.{◌≡◌, refl, ◌⊎◌, Bool, List, ◌++◌, 
 use Rattle.std.proofs.Common.{sym, ap, ◌∙◌, subst, subst₂, inl, inr, append_assoc, le_refl, le_trans, arith, length-append, length-drop, drop-drop, drop_at, take_all, length-take-le}
 use Rattle.layout.specs.Bits.{bits_of}
 use Rattle.layout.specs.Layout.{Takes, first, second, value}
-use Rattle.layout.specs.Laws.Bits.{length_bits_of}
-use Rattle.layout.specs.Laws.Sound.{takes_one}
+use Rattle.layout.proofs.Laws.Bits.{length_bits_of}
+use Rattle.layout.proofs.Laws.Sound.{takes_one}
 use Rattle.format.specs.Limits.{longest_list}
 use Rattle.format.specs.Kinds.{Kind, Plain, Instants, Corrections, kind_number, Family}
 use Rattle.format.specs.Records as Records
@@ -13,11 +13,11 @@ use Rattle.format.specs.Streams.{end_mark}
 use Rattle.format.specs.Answers.{Outcome, refuses, gives, Span, told_bit, Told}
 use Rattle.format.specs.Reading as Reading
 use Rattle.format.specs.Reading.{Item, Reads, Check, Checks}
-use Rattle.format.specs.Laws.Kinds.{kind_one, is_kind}
-use Rattle.format.specs.Laws.Records.{record_sound, valid_any, any_valid}
-use Rattle.format.specs.Laws.Marks.{takes_no_end, takes_shorter}
-use Rattle.format.specs.Laws.Reading.{told_one, reads_one}
-use Rattle.format.specs.Laws.Outcomes.{reads_accepted, accepted_reads}
+use Rattle.format.proofs.Laws.Kinds.{kind_one, is_kind}
+use Rattle.format.proofs.Laws.Records.{record_sound, valid_any, any_valid}
+use Rattle.format.proofs.Laws.Marks.{takes_no_end, takes_shorter}
+use Rattle.format.proofs.Laws.Reading.{told_one, reads_one}
+use Rattle.format.proofs.Laws.Outcomes.{reads_accepted, accepted_reads}
 use Rattle.headings.specs.Headings.{kind_of, headed}
 use Rattle.reading.specs.Refusals.{refusal_number}
 use Rattle.read_records.specs.declared.Read.{Read}

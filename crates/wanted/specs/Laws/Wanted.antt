@@ -5,8 +5,8 @@ use Rattle.format.specs.Kinds as Kinds
 use Rattle.format.specs.Kinds.{kind_number}
 use Rattle.format.specs.Records as Records
 use Rattle.format.specs.Records.{code_number, Wants}
-use Rattle.format.specs.Laws.Kinds.{kind_one}
-use Rattle.format.specs.Laws.Records.{code_one}
+use Rattle.format.proofs.Laws.Kinds.{kind_one}
+use Rattle.format.proofs.Laws.Records.{code_one}
 use Rattle.headings.specs.Headings.{kind_of}
 use Rattle.headings.specs.declared.Kind.{Kind}
 use Rattle.lists.specs.Tests.{Unless}

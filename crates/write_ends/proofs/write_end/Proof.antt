@@ -2,7 +2,7 @@ use mathlib.Core.Path.{◌≡◌, ap, ap₂, ◌∙◌}
 use Prim.Native.Nat.{ℕ, ◌+◌, ◌-◌, ◌*◌, ◌/◌}
 use Rattle.layout.specs.Bits.{in_bits, bits_of, put}
 use Rattle.format.specs.Answers.{Start}
-use Rattle.layout.specs.Laws.Bits.{in_bits_zero}
+use Rattle.layout.proofs.Laws.Bits.{in_bits_zero}
 use Rattle.pen.specs.Laws.Bytes.{all_bytes}
 use Rattle.write_ends.specs.Laws.End.{end_buffer_long, end_start_outside, end_full, end_done}
 use native.Mathlib.Omega.{arith}

@@ -8,7 +8,7 @@ use Rattle.format.specs.Streams.{to_byte_end}
 use Rattle.format.specs.Answers.{refuses, gives, Start}
 use Rattle.format.specs.Writing as Writing
 use Rattle.format.specs.Writing.{end_image, WritesEnd}
-use Rattle.format.specs.Laws.Writing.{writes_end_one, end_room}
+use Rattle.format.proofs.Laws.Writing.{writes_end_one, end_room}
 use Rattle.writing.specs.declared.Wrote.{Wrote}
 use Rattle.writing.specs.Wrote.{outcome_of}
 use Rattle.writing.specs.Laws.Wrote.{wrote_same}

@@ -9,7 +9,7 @@ use Rattle.format.specs.Records.{any_record}
 use Rattle.format.specs.Answers.{refuses, Start}
 use Rattle.format.specs.Writing as Writing
 use Rattle.format.specs.Writing.{parameter_of, Chosen, Faulty, Puts, written, Writes}
-use Rattle.format.specs.Laws.Writing.{writes_one}
+use Rattle.format.proofs.Laws.Writing.{writes_one}
 use Rattle.headings.specs.declared.Code.{Code}
 use Rattle.headings.specs.declared.Code.TheVariants.{Gamma, Delta, Rice, VariableByte, Interpolative}
 use Rattle.headings.specs.declared.Heading.{Heading}

@@ -1,6 +1,6 @@
 use mathlib.Core.Path.{◌≡◌, ap, ◌∙◌}
 use mathlib.Core.List.{[]}
-use Rattle.layout.specs.Laws.Bits.{length_in_bits}
+use Rattle.layout.proofs.Laws.Bits.{length_in_bits}
 use Rattle.pen.specs.Laws.Pen.{drawn_none}
 use Rattle.write_interpolative.specs.Parts.{image}
 use Rattle.write_interpolative.specs.Laws.Parts.{image_none, halves_length, halves_drawn}

@@ -1,5 +1,5 @@
 use mathlib.Core.Path.{◌∙◌}
-use Rattle.format.specs.Laws.Parts.{width_size}
+use Rattle.format.proofs.Laws.Parts.{width_size}
 use borrow.Author.Rules.{rules}
 use Rattle.write_interpolative.proofs.width.Statement.{statement}
 use Rattle.write_interpolative.proofs.width.Tie as tie

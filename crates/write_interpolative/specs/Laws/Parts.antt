@@ -9,9 +9,9 @@ use Rattle.std.proofs.Math.ListN.{drop}
 use Rattle.std.proofs.Math.Seq.{take-nil, get_or-drop}
 use Rattle.layout.specs.Bits.{in_bits}
 use Rattle.layout.specs.Layout.{Layout, bind}
-use Rattle.layout.specs.Laws.Bits.{length_in_bits}
+use Rattle.layout.proofs.Laws.Bits.{length_in_bits}
 use Rattle.format.specs.Interpolative.{width, offset, middle, part, rising}
-use Rattle.format.specs.Laws.Parts.{Node, node, part_node, part_none}
+use Rattle.format.proofs.Laws.Parts.{Node, node, part_node, part_none}
 use Rattle.pen.specs.declared.Pen.{Pen}
 use Rattle.pen.specs.Pen.{Inside, Drawn}
 use Rattle.pen.specs.Laws.Pen.{drawn_both}

@@ -4,7 +4,7 @@ use Rattle.std.proofs.Common.{sym, ap, ap₂, ◌∙◌, subst, append_assoc, le
 use Rattle.std.proofs.Math.Arith.{digits_lt}
 use Rattle.std.specs.Int.{w8}
 use Rattle.layout.specs.Bits.{in_bits, bits_of}
-use Rattle.layout.specs.Laws.Bits.{length_in_bits, in_bits_cat}
+use Rattle.layout.proofs.Laws.Bits.{length_in_bits, in_bits_cat}
 use Rattle.format.specs.Limits.{largest_parameter}
 use Rattle.format.specs.Codes.{gamma}
 use Rattle.format.specs.Kinds.{kind_number}

@@ -3,7 +3,7 @@ use Rattle.std.specs.Prelude.{◌≡◌, refl, Bool, List, ℕ}
 use Rattle.std.proofs.Common.{sym, ap, ◌∙◌, arith}
 use Rattle.layout.specs.Bits.{Bytes}
 use Rattle.format.specs.Writing.{Puts}
-use Rattle.format.specs.Laws.Writing.{puts_one}
+use Rattle.format.proofs.Laws.Writing.{puts_one}
 use Rattle.pen.specs.Laws.Pen.{bits_one}
 use Rattle.bits.specs.Laws.Same.{bit_same}
 use Rattle.bits.specs.declared.BitPos.{BitPos}

@@ -4,10 +4,10 @@ use Rattle.std.proofs.Common.{sym, ap, ap₂, ◌∙◌, subst, lt_of_lt_of_le, 
 use Rattle.std.proofs.Math.Nat.{mod-eq-sub-div-mul}
 use Rattle.std.proofs.lemmas.List.{length-replicate}
 use Rattle.layout.specs.Bits.{odd, in_bits, zeros}
-use Rattle.layout.specs.Laws.Bits.{length_in_bits, in_bits_cat, in_bits_mod}
-use Rattle.format.specs.Laws.Digits.{digits_hold}
+use Rattle.layout.proofs.Laws.Bits.{length_in_bits, in_bits_cat, in_bits_mod}
+use Rattle.format.proofs.Laws.Digits.{digits_hold}
 use Rattle.format.specs.Codes.{Word, digits, size, binary, gamma, delta, rice, another, groups, variable_byte}
-use Rattle.layout.specs.Laws.Windows.{zeros_lead}
+use Rattle.layout.proofs.Laws.Windows.{zeros_lead}
 use Rattle.bits.specs.Laws.Length.{size_le, size_pos, power_seven}
 
 -- ---- gamma and delta

@@ -1,5 +1,5 @@
 use Prim.Native.Nat.{◌+◌}
-use Rattle.layout.specs.Laws.Bits.{length_in_bits}
+use Rattle.layout.proofs.Laws.Bits.{length_in_bits}
 use Rattle.pen.specs.Laws.Pen.{drawn_both}
 use Rattle.write_records.specs.Laws.Images.{length_heading, heading_parts}
 use native.Mathlib.Omega.{arith}

@@ -1,5 +1,5 @@
 use Prim.Native.Nat.{◌+◌, ◌-◌}
-use Rattle.layout.specs.Laws.Bits.{length_in_bits}
+use Rattle.layout.proofs.Laws.Bits.{length_in_bits}
 use Rattle.bits.specs.Laws.Length.{size_pos, size_small}
 use Rattle.pen.specs.Laws.Pen.{drawn_as, drawn_both}
 use Rattle.write_words.specs.Laws.Writes.{length_gamma, length_delta, gamma_field, gamma_holds, size_word, size_holds, delta_parts}

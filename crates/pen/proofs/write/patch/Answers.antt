@@ -1,0 +1,41 @@
+use Rattle.std.proofs.Common.{◌≡◌, ◌+◌, ◌*◌, ◌/◌, ◌%◌, ◌<◌, arith}
+use Rattle.pen.specs.Laws.Bytes.{patched}
+use Rattle.pen.specs.Laws.Bytes.{patched_byte}
+use Rattle.pen.proofs.write.patch.Goals as goal
+use Rattle.pen.proofs.write.patch.Goals.{After-power-high}
+
+-- the sum that the code forms
+value : (c : After-power-high)
+    → c.args.b / c.power-high.result * c.power-high.result + c.args.v * c.power-low.result + c.args.b % c.power-low.result
+    ≡ patched c.args.b c.args.w c.args.k c.args.v
+unfolding patched
+value c = rw (c.power-high.ensures.0, c.power-low.ensures.0)
+
+whole : (c : After-power-high)
+    → c.args.b / c.power-high.result * c.power-high.result + c.args.v * c.power-low.result + c.args.b % c.power-low.result
+    < 256
+whole c = rw (value c) (patched_byte _ _ _ _ (omega arith) (omega arith) c.requires.1)
+
+-- at After-power-high
+pub overflow_mul-result : goal.overflow_mul-result
+overflow_mul-result c = omega (arith, whole c)
+
+-- at After-power-high
+pub overflow_mul-result-2 : goal.overflow_mul-result-2
+overflow_mul-result-2 c = omega (arith, whole c)
+
+-- at After-power-high
+pub overflow_add-result : goal.overflow_add-result
+overflow_add-result c = omega (arith, whole c)
+
+-- at After-power-high
+pub overflow_add-result-2 : goal.overflow_add-result-2
+overflow_add-result-2 c = omega (arith, whole c)
+
+-- at After-power-high
+pub overflow_cast-result-2 : goal.overflow_cast-result-2
+overflow_cast-result-2 c = omega (arith, whole c)
+
+-- at After-power-high
+pub returns : goal.returns
+returns c = value c
