@@ -2,7 +2,6 @@
 -- the two lines `1 1 0 3 5 5 9` and `end`: code, kind, k (0 unless Rice), count, values."
 use Rattle.std.specs.Prelude.{◌≡◌, List, [], ◌∷◌, ◌++◌, ℕ, zero, suc, ◌+◌, ◌*◌, ◌/◌, ◌%◌, ◌≤◌, ◌<◌, ℤ, pos, negsuc, length}
 use Prim.Native.Char.{code}
-use Prim.Native.String as String
 use Prim.Native.String.{String}
 use Rattle.std.proofs.Math.Seq.{paste}
 use Rattle.format.specs.Limits.{longest_list}

@@ -69,6 +69,7 @@ fn size(v: i32) -> u32
 }
 
 // The same of an integer.
+#[tactic(auto, using(crate::specs::Laws::Stands::signed_plain))]
 pub(crate) fn signed(out: &mut [u8], at: usize, v: i32, more: usize) -> usize
     requires { at + 12 ≤ length out.old }
     ensures stands { Stands (Numbers more (v ∷ [])) out.old at out.new result }

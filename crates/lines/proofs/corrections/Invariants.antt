@@ -1,6 +1,5 @@
-use Rattle.std.proofs.Common.{◌≡◌, refl, ◌∙◌, ◌+◌, ◌-◌, ◌*◌, ◌≤◌, pos, length, take, get_or, w32, to_z-of_z, arith, rules}
+use Rattle.std.proofs.Common.{◌≡◌, ◌+◌, ◌-◌, ◌*◌, ◌≤◌, length, take}
 use Rattle.lines.specs.Text.{Numbers, Stands}
-use Rattle.lines.specs.Laws.Stands.{numbers_begun, numbers_next, numbers_whole}
 use Rattle.lines.proofs.corrections.Given as goal
 
 abbrev pub invariant-loop-i : goal.invariant-loop-i

@@ -1,4 +1,4 @@
-use Rattle.std.proofs.Common.{refl, arith, rules}
+use Rattle.std.proofs.Common.{refl, arith}
 use Rattle.headings.specs.Headings.{headed}
 use Rattle.lines.specs.Laws.Stands.{record_stands}
 use Rattle.lines.proofs.record_of_corrections.Goals as goal
@@ -6,9 +6,9 @@ use Rattle.lines.proofs.record_of_corrections.Goals as goal
 -- at After-slice_known-3-1
 pub returns : goal.returns
 returns c =
-    let v : tie.After-corrections = c in
-    let h : tie.After-heading = v in
-    let s : tie.Start = h in
-    let (begun, short) = h.heading.ensures in
-    let (rest, few) = v.corrections.ensures in
-    (record_stands (headed s.args.h s.args.list.now) refl begun rest (omega (arith, short, s.requires.0)), omega (arith, short, few, s.requires.1))
+    let h = c.heading-begun.ensures in
+    let v = c.corrections.ensures in
+    record {
+      stands = record_stands (headed c.args.h c.args.list.now) refl h.stands v.stands (omega (arith, h.upper_bound, c.requires.0));
+      upper_bound = omega (arith, h.upper_bound, v.upper_bound, c.requires.1);
+    }

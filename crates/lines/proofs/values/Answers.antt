@@ -1,7 +1,6 @@
-use Rattle.std.proofs.Common.{◌≡◌, refl, sym, ◌∙◌, map, ◌+◌, ◌-◌, ◌*◌, ◌≤◌, pos, length, take, arith, rules}
+use Rattle.std.proofs.Common.{◌≡◌, refl, sym, ◌∙◌, map, pos, length, arith}
 use Rattle.std.proofs.Math.ListN.{get_or-map}
 use Rattle.std.proofs.lemmas.List.{length-map}
-use Rattle.lines.specs.Text.{Numbers, Stands}
 use Rattle.lines.specs.Laws.Stands.{numbers_begun, numbers_next, numbers_whole}
 use Rattle.lines.proofs.values.Goals as goal
 
@@ -12,24 +11,22 @@ loop-i-init c = (omega arith, refl, omega arith, numbers_begun _ _)
 -- at After-slice_known-in-loop-i-1
 pub loop-i-preserved : goal.loop-i-preserved
 loop-i-preserved c =
-    let u : tie.After-unsigned invariant-loop decreases-loop = c in
-    let l : tie.At-loop invariant-loop decreases-loop = u in
-    let s = l in
-    let i = l.loop.invariant in
-    let list = s.args.list.now in
-    let (here, short) = u.unsigned.ensures in (
+    let l = c.loop-i in
+    let i = l.invariant in
+    let list = c.args.list.now in
+    let here = c.unsigned-at.ensures.stands in
+    let short = c.unsigned-at.ensures.upper_bound in (
       omega arith,
-      u.unsigned.auto.0 ∙ i.1,
+      c.unsigned-at.auto.out ∙ i.1,
       omega (arith, short, i.2),
-      numbers_next (map pos list) (length list) l.loop.i (pos 0) _ (sym (length-map list pos)) (omega arith) (sym (get_or-map pos list l.loop.i 0)) i.3 here (omega (arith, i.2, s.requires)),
+      numbers_next (map pos list) (length list) l.i (pos 0) _ (sym (length-map list pos)) (omega arith) (sym (get_or-map pos list l.i 0)) i.3 here (omega (arith, i.2, c.requires)),
     )
 
 -- at After-loop-i
 pub returns : goal.returns
 returns c =
-    let l : tie.At-loop invariant-loop decreases-loop = c in
-    let s = l in
-    let i = l.loop.invariant in
-    let list = s.args.list.now in
-    let all : l.loop.i ≡ length list = omega arith in
-    (numbers_whole (map pos list) (length list) l.loop.i (sym (length-map list pos)) all i.3, omega (arith, i.2, all))
+    let l = c.loop-i in
+    let i = l.invariant in
+    let list = c.args.list.now in
+    let all : l.i ≡ length list = omega arith in
+    record { stands = numbers_whole (map pos list) (length list) l.i (sym (length-map list pos)) all i.3; upper_bound = omega (arith, i.2, all) }

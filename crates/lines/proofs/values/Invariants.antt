@@ -1,8 +1,5 @@
-use Rattle.std.proofs.Common.{◌≡◌, refl, sym, ◌∙◌, map, ◌+◌, ◌-◌, ◌*◌, ◌≤◌, pos, length, take, arith, rules}
-use Rattle.std.proofs.Math.ListN.{get_or-map}
-use Rattle.std.proofs.lemmas.List.{length-map}
+use Rattle.std.proofs.Common.{◌≡◌, map, ◌+◌, ◌-◌, ◌*◌, ◌≤◌, pos, length, take}
 use Rattle.lines.specs.Text.{Numbers, Stands}
-use Rattle.lines.specs.Laws.Stands.{numbers_begun, numbers_next, numbers_whole}
 use Rattle.lines.proofs.values.Given as goal
 
 abbrev pub invariant-loop-i : goal.invariant-loop-i

@@ -37,7 +37,7 @@ stands_one one {old} {at} s u =
 
 -- ---- side by side
 
-pub numbers_join : {m : ℕ} {vs ws : List ℤ} {a b : List ℕ} → Numbers (length ws + m) vs a → Numbers m ws b → Numbers m (vs ++ ws) (a ++ b)
+pub numbers_join : {m : ℕ} {ws vs : List ℤ} {a b : List ℕ} → Numbers (length ws + m) vs a → Numbers m ws b → Numbers m (vs ++ ws) (a ++ b)
 numbers_join Text.none q = q
 numbers_join {m} {ws = ws} {b = b} (Text.then {v = v} {vs = vs} {t = t} {ts = ts} n r) q =
     let all : length (vs ++ ws) + m ≡ length vs + (length ws + m) = omega (arith, length-append vs ws) in

@@ -1,4 +1,4 @@
-use Rattle.std.proofs.Common.{◌≡◌, refl, sym, ap, ◌∙◌, List, ℕ, ◌+◌, ◌-◌, ◌≤◌, add-one, arith, length, get_or, set, length-set, rules}
+use Rattle.std.proofs.Common.{◌≡◌, refl, sym, ap, ◌∙◌, List, ℕ, ◌+◌, add-one, arith, length, get_or, set, length-set}
 use Rattle.std.proofs.Math.Seq.{paste, paste-zero, paste-suc}
 use Rattle.lines.proofs.numbers.append.Goals as goal
 
@@ -24,4 +24,4 @@ returns c =
     let l = c.loop-i in
     let a = c.args in
     let all : l.i ≡ length a.text.now = omega arith in
-    (refl, l.invariant.2 ∙ ap (paste a.out.now a.at a.text.now) all)
+    record { value = refl; out_after = l.invariant.2 ∙ ap (paste a.out.now a.at a.text.now) all }

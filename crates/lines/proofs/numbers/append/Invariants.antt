@@ -1,5 +1,5 @@
-use Rattle.std.proofs.Common.{◌≡◌, refl, sym, ap, ◌∙◌, List, ℕ, ◌+◌, ◌-◌, ◌≤◌, add-one, arith, length, get_or, set, length-set, rules}
-use Rattle.std.proofs.Math.Seq.{paste, paste-zero, paste-suc}
+use Rattle.std.proofs.Common.{◌≡◌, ◌-◌, ◌≤◌, length}
+use Rattle.std.proofs.Math.Seq.{paste}
 use Rattle.lines.proofs.numbers.append.Given as goal
 
 abbrev pub invariant-loop-i : goal.invariant-loop-i

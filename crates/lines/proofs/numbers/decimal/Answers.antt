@@ -1,15 +1,15 @@
-use Rattle.std.proofs.Common.{◌≡◌, refl, sym, subst, append-nil, ◌+◌, ◌-◌, ◌/◌, ◌^◌, ◌≤◌, ◌<◌, length, drop, set, length-set, arith, rules}
+use Rattle.std.proofs.Common.{◌≡◌, refl, sym, subst, append-nil, ◌+◌, ◌-◌, ◌/◌, ◌^◌, ◌<◌, length, drop, set, length-set, arith}
 use Rattle.lines.specs.Text.{Decimal}
-use Rattle.lines.specs.Laws.Stands.{Ends, ends_next, ends_whole, ends_short, decimal_stands}
+use Rattle.lines.specs.Laws.Stands.{ends_next, ends_whole, ends_short, decimal_stands}
 use Rattle.lines.proofs.numbers.decimal.Goals as goal
-use Rattle.lines.proofs.numbers.decimal.Goals.{After-last_digit}
+use Rattle.lines.proofs.numbers.decimal.Goals.{After-append, After-last_digit}
 
 -- a digit more is left, and there is room for it
 short : (c : After-last_digit) → let l = c.loop-rest in (0 < l.first) × (l.rest / 10 < 10 ^ l.first)
 short c = let l = c.loop-rest in ends_short l.rest l.first (omega arith) l.invariant.2
 
 -- the array of digits is as long as it was
-gathered : (c : After-last_digit) → let l = c.loop-rest in length (set l.text l.first c.last_digit-2.result) ≡ 10
+gathered : (c : After-append) → let l = c.loop-rest in length (set l.text l.first c.last_digit-2.result) ≡ 10
 gathered c = simp length-set c.loop-rest.invariant.1
 
 -- at After-slice_known-1
@@ -32,16 +32,11 @@ loop-rest-preserved c =
       rw c.last_digit.ensures (ends_next l.text l.first (omega (arith, l.invariant.0, l.invariant.1)) l.invariant.3 (omega arith) s.0),
     )
 
--- at After-append-arg-1
-pub slice_bounds-append-end : goal.slice_bounds-append-end
-slice_bounds-append-end c = omega (arith, gathered (goal.at.slice_bounds-append-end c).After-last_digit)
-
 -- at After-slice_known-2-1
 pub returns : goal.returns
 returns c =
-    let a : tie.After-append invariant-loop decreases-loop = c in
-    let d : tie.After-last-digit2 invariant-loop decreases-loop = a in
-    let l = d.loop in
-    let digits : Decimal d.args.n (drop l.first (set l.text l.first d.last-digit2.result)) =
-    rw d.last-digit2.ensures (ends_whole l.text l.first (omega (arith, l.invariant.0, l.invariant.1)) l.invariant.3 (omega arith)) in
-    decimal_stands (set l.text l.first d.last-digit2.result) l.first (gathered d) digits a.append.ensures.0 a.append.ensures.1
+    let l = c.loop-rest in
+    let digits : Decimal c.args.n (drop l.first (set l.text l.first c.last_digit-2.result)) =
+    rw c.last_digit-2.ensures (ends_whole l.text l.first (omega (arith, l.invariant.0, l.invariant.1)) l.invariant.3 (omega arith)) in
+    let all = decimal_stands (set l.text l.first c.last_digit-2.result) l.first (gathered (goal.at.returns c).After-append) digits c.append.ensures.value c.append.ensures.out_after in
+    record { stands = all.0; upper_bound = all.1 }

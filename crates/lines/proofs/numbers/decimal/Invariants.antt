@@ -1,6 +1,5 @@
-use Rattle.std.proofs.Common.{◌≡◌, refl, sym, subst, append-nil, ◌+◌, ◌-◌, ◌/◌, ◌^◌, ◌≤◌, ◌<◌, length, drop, set, length-set, arith, rules}
-use Rattle.lines.specs.Text.{Decimal}
-use Rattle.lines.specs.Laws.Stands.{Ends, ends_next, ends_whole, ends_short, decimal_stands}
+use Rattle.std.proofs.Common.{◌≡◌, ◌+◌, ◌^◌, ◌≤◌, ◌<◌, length}
+use Rattle.lines.specs.Laws.Stands.{Ends}
 use Rattle.lines.proofs.numbers.decimal.Given as goal
 
 abbrev pub invariant-loop-rest : goal.invariant-loop-rest

@@ -1,26 +1,17 @@
-use Rattle.std.proofs.Common.{ap, ◌∙◌, ◌≤◌, nat_abs, length, to_z-of_z, arith, rules}
-use Rattle.lines.specs.Laws.Stands.{stands_text, signed_plain, signed_minus}
+use Rattle.std.proofs.Common.{◌≡◌, ap, ◌∙◌, ◌≤◌, false, pos, nat_abs, length, to_z-of_z, arith}
+use Rattle.std.specs.Int.Signed.{le_z}
+use Rattle.lines.specs.Laws.Stands.{stands_text, signed_minus}
 use Rattle.lines.proofs.numbers.signed.Goals as goal
 
--- at After-slice_known-then-v-ge0-1
-pub returns-then-v-ge0 : goal.returns-then-v-ge0
-returns-then-v-ge0 c =
-    let u : tie.After-unsigned = c in
-    let s : tie.Start = u in
-    let value = to_z-of_z s.ranges.v in
-    let size = u.size.ensures ∙ ap nat_abs value in
-    (signed_plain s.args.v (rw value at u.if1.true) (rw size at u.unsigned.ensures.0), omega (arith, u.unsigned.ensures.1))
-
--- at After-slice_known-3-1
+-- the test is cited by no name, so that an edit of it is refused for what it says
 pub returns : goal.returns
 returns c =
-    let u : tie.After-unsigned2 = c in
-    let a : tie.After-append = u in
-    let s : tie.Start = a in
-    let value = to_z-of_z s.ranges.v in
-    let size = u.size2.ensures ∙ ap nat_abs value in
-    let sign = a.append.ensures in
-    let room : a.append.result ≤ length s.args.out.now = omega (arith, sign.0, s.requires) in (
-      signed_minus s.args.v (rw value at a.if1.false) (stands_text sign.0 sign.1) (rw size at u.unsigned2.ensures.0) room,
-      omega (arith, u.unsigned2.ensures.1, sign.0),
-    )
+    let value = to_z-of_z c.ranges.v in
+    let below : le_z (pos 0) c.args.v ≡ false = grind (arith, value) in
+    let size = c.size-2.ensures ∙ ap nat_abs value in
+    let sign = c.append-after_sign.ensures in
+    let room : c.append-after_sign.result ≤ length c.args.out.now = omega (arith, sign.value, c.requires) in
+    record {
+      stands = signed_minus c.args.v below (stands_text sign.value sign.out_after) (rw size at c.unsigned-2.ensures.stands) room;
+      upper_bound = omega (arith, c.unsigned-2.ensures.upper_bound, sign.value);
+    }

@@ -1,11 +1,12 @@
-use Rattle.std.proofs.Common.{arith, rules}
+use Rattle.std.proofs.Common.{arith}
 use Rattle.lines.specs.Laws.Stands.{number_stands}
 use Rattle.lines.proofs.numbers.unsigned.Goals as goal
 
 -- at After-separator
 pub returns : goal.returns
 returns c =
-    let d : tie.After-decimal = c in
-    let e = d.decimal.ensures in
-    let start = d in
-    (number_stands e.0 c.separator.ensures (omega (arith, e.1, d.decimal.auto.0, start.requires)) (omega (arith, e.1, start.requires)), omega (arith, e.1))
+    let e = c.decimal-end.ensures in
+    record {
+      stands = number_stands e.stands c.separator.ensures (omega (arith, e.upper_bound, c.decimal-end.auto.out, c.requires)) (omega (arith, e.upper_bound, c.requires));
+      upper_bound = omega (arith, e.upper_bound);
+    }

@@ -1,0 +1,39 @@
+use Rattle.std.proofs.Common.{refl, ◌-◌, ◌≤◌, ◌<◌, arith, rules}
+use Rattle.format.specs.Limits.{longest_list}
+use Rattle.read_counts.specs.Laws.Counts.{word_some, count_many, count_above, count_is, count_cut, count_bad}
+use Rattle.read_counts.proofs.read.Goals as goal
+
+-- at In-Took
+pub overflow_sub-n : goal.overflow_sub-n
+overflow_sub-n c = search (rules, word_some)
+
+-- at Then-n-gt-LONGEST_LIST
+pub returns-then-n-gt-LONGEST_LIST : goal.returns-then-n-gt-LONGEST_LIST
+returns-then-n-gt-LONGEST_LIST c =
+    let n = c.in-Took.w - 1 in
+    let many : longest_list < n = omega arith in
+    count_many c.read.ensures c.args.room c.in-Took.is n refl c.requires many
+
+-- at Then-room-n
+pub returns-then-room-n : goal.returns-then-room-n
+returns-then-room-n c =
+    let n = c.in-Took.w - 1 in
+    let few : n ≤ longest_list = omega arith in
+    let above : c.args.room < n = omega arith in
+    count_above c.read.ensures c.args.room c.in-Took.is n refl c.requires few above
+
+-- at Else-room-n
+pub returns-else-room-n : goal.returns-else-room-n
+returns-else-room-n c =
+    let n = c.in-Took.w - 1 in
+    let few : n ≤ longest_list = omega arith in
+    let fits : n ≤ c.args.room = omega arith in
+    count_is c.read.ensures c.args.room c.in-Took.is n refl few fits
+
+-- at In-Cut
+pub returns-in-Cut : goal.returns-in-Cut
+returns-in-Cut c = search (rules, count_cut)
+
+-- at In-Bad
+pub returns-in-Bad : goal.returns-in-Bad
+returns-in-Bad c = search (rules, count_bad)

@@ -1,0 +1,20 @@
+use Rattle.std.proofs.Common.{to_z-of_z, w32, arith, rules}
+use Rattle.read_values.specs.Told.{is, no}
+use Rattle.read_values.specs.Laws.Values.{correction_is, correction_out}
+use Rattle.read_values.proofs.signed.formed.Goals as goal
+
+-- at After-at
+pub returns-then-w-eq1 : goal.returns-then-w-eq1
+returns-then-w-eq1 c =
+    rw c.at.ensures (no (λ p. correction_out c.requires.1 c.requires.0 p c.if-w-eq1.true))
+
+-- at Else-w-eq1
+pub halved-requires : goal.halved-requires
+halved-requires c =
+    omega (arith, c.requires.1.takes.valid.0, c.if-w-eq1.false)
+
+-- at After-halved
+pub returns : goal.returns
+returns c =
+    let h = c.halved in
+    rw (to_z-of_z {w = w32} {z = h.result} (search rules)) (is (λ p. correction_is c.requires.1 h.result p h.ensures.0 h.ensures.1))
