@@ -14,7 +14,7 @@ use Rattle.headings.specs.declared.Heading.{Heading}
 use Rattle.reading.specs.Refusals.{refusal_number}
 use Rattle.reading.specs.Laws.Steps.{told_at, at_bit}
 use Rattle.reading.specs.declared.Refusal.{Refusal}
-use Rattle.read_headings.specs.Told.{body_of, Ended, Headed}
+use Rattle.read_headings.specs.Told.{Ended, Headed}
 use Rattle.read_headings.specs.Laws.Same.{headed_no_end}
 use Rattle.read_bodies.specs.Laws.Bodies.{counted_values}
 use Rattle.read_records.specs.Told as Told

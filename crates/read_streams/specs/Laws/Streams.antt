@@ -1,5 +1,5 @@
 -- Going on in a stream, and what its end or a failing record comes to.
-use Rattle.std.specs.Prelude.{◌≡◌, refl, Bool, true, false, List, ℕ, ◌+◌, ◌-◌, ◌≤◌, ◌<◌, ℤ, length, take, drop}
+use Rattle.std.specs.Prelude.{◌≡◌, refl, List, ℕ, ◌+◌, ◌-◌, ◌≤◌, ◌<◌, ℤ, length, take, drop}
 use Rattle.std.proofs.Common.{sym, ap, ap₂, ◌∙◌, subst, subst₂, le_refl, mod-eq_of_lt, pow_pos, arith, take_all}
 use Rattle.layout.specs.Bits.{bits_of, in_bits}
 use Rattle.layout.specs.Layout.{Layout}

@@ -1,0 +1,49 @@
+use Rattle.std.proofs.Common.{SFits, to_z-of_z, w32, arith, rules}
+use Rattle.format.specs.Kinds.{Corrections}
+use Rattle.reading.specs.Refusals.{refusal_number}
+use Rattle.format.specs.Reading.{asked_for}
+use Rattle.read_headings.specs.Laws.Headings.{end_no}
+use Rattle.reading.specs.Laws.Judging.{were_whole, were_no}
+use Rattle.read_headings.specs.Laws.Told.{was_body, was_end, was_no}
+use Rattle.reading.specs.Laws.Steps.{no_at}
+use Rattle.read_bodies.specs.Laws.Bodies.{headed_for}
+use Rattle.find_in_records.specs.Laws.Finding.{finds_no, found_correction, beyond_correction}
+use Rattle.find_in_records.proofs.signed.look_up.Goals as goal
+
+-- at In-Body
+pub judge-requires : goal.judge-requires
+judge-requires c =
+    let k = was_body c.read.ensures c.in-Body.is in
+    (k.reached.within, headed_for k, k.legal.count)
+
+-- at Then-place-n
+pub returns-then-place-n : goal.returns-then-place-n
+returns-then-place-n c =
+    let k = was_body c.read.ensures c.in-Body.is in
+    let w = were_whole c.judge.ensures c.in-Whole.is in
+    let fits : SFits w32 c.in-Whole.v = search rules in
+    rw (to_z-of_z fits) (found_correction k w.1 w.2 (omega (arith, c.if-place-n.true)))
+
+-- at After-new
+pub returns-else-place-n : goal.returns-else-place-n
+returns-else-place-n c =
+    let k = was_body c.read.ensures c.in-Body.is in
+    let w = were_whole c.judge.ensures c.in-Whole.is in
+    beyond_correction k w.1 (omega (arith, c.if-place-n.false)) c.new.ensures
+
+-- at In-No-judge
+pub returns-in-No-judge : goal.returns-in-No-judge
+returns-in-No-judge c =
+    let k = was_body c.read.ensures c.in-Body.is in
+    finds_no c.requires (k.reached.no (refusal_number c.in-No-judge.m) c.in-No-judge.p (were_no c.judge.ensures c.in-No-judge.is))
+
+-- at After-at
+pub returns-in-End : goal.returns-in-End
+returns-in-End c =
+    let w = c.requires in
+    finds_no w (no_at (end_no (asked_for Corrections) (was_end c.read.ensures c.in-End.is) w) c.at.ensures)
+
+-- at In-No
+pub returns-in-No : goal.returns-in-No
+returns-in-No c =
+    finds_no c.requires (was_no c.read.ensures c.in-No.is).whole

@@ -1,0 +1,27 @@
+use Rattle.std.proofs.Common.{◌≡◌, refl, ap, ◌∙◌, List, ◌++◌, ℕ, ℤ, pos, get_or, take, drop, set, length-set, to_z-of_z, w32, arith, rules}
+use Rattle.read_records.specs.Laws.Copied.{copied_more}
+use Rattle.read_records.proofs.signed.copy.Goals as goal
+
+-- at Start
+pub loop-i-init : goal.loop-i-init
+loop-i-init c = (omega arith, refl, refl)
+
+-- at After-list-1
+pub loop-i-preserved : goal.loop-i-preserved
+loop-i-preserved c =
+    let l = c.loop-i in
+    let a = c.args in
+    let x = get_or a.own.now l.i (pos 0) in
+    rw (to_z-of_z {w = w32} {z = x} (search rules)) (
+      omega arith,
+      length-set l.list l.i x ∙ l.invariant.1,
+      ap (λ (y : List ℤ). set y l.i x) l.invariant.2 ∙ copied_more (pos 0) a.own.now a.list.now l.i (omega arith) (omega arith),
+    )
+
+-- at After-loop-i
+pub returns : goal.returns
+returns c =
+    let l = c.loop-i in
+    let a = c.args in
+    let e : l.i ≡ a.n = omega arith in
+    record { front = l.invariant.2 ∙ ap (λ (k : ℕ). take k a.own.now ++ drop k a.list.now) e }
