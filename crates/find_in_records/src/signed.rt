@@ -20,7 +20,8 @@ pub fn look_up(c: Cursor, s: &[u8], place: usize) -> LookedUpCorrection
     match read_headings::read(c, s, Wanted::This(Kind::Corrections), LONGEST_LIST) {
         Begun::Body(h, n, d) => match read_bodies::signed::judge(d, s, h, n, place) {
             JudgedCorrections::Whole(v, _) => {
-                if place < n {
+                let within = place < n;
+                if within {
                     return LookedUpCorrection::Value(v);
                 }
                 LookedUpCorrection::Refused(Refusal::Beyond, BitPos::new(0))

@@ -21,7 +21,8 @@ fn pack(w: u64, bits: u32) -> u64
 pub fn gamma(n: u64) -> u64
     ensures { Glimpsed gamma n result }
 {
-    if n < 34359738368 {
+    let long = n < 34359738368;
+    if long {
         return 0;
     }
     let z = u64::leading_zeros(n);
@@ -54,7 +55,8 @@ pub fn variable_byte(n: u64) -> u64
     if first == 0 {
         return 0;
     }
-    if first < 128 {
+    let alone = first < 128;
+    if alone {
         return pack(first, 8);
     }
     if first == 128 {

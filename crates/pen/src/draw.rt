@@ -51,7 +51,8 @@ impl Pen {
         let at = here.bit();
         let count = at % 32 + width;
         let all = (self.gathered << width) + value as u64;
-        if count < 32 {
+        let few = count < 32;
+        if few {
             return Pen {
                 at: next,
                 gathered: all,

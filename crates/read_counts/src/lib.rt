@@ -24,10 +24,12 @@ pub fn read(c: Cursor, s: &[u8], room: usize) -> CountField
     match gamma::read(c, s) {
         Read::Took(w, d) => {
             let n = (w - 1) as usize;
-            if LONGEST_LIST < n {
+            let too_many = LONGEST_LIST < n;
+            if too_many {
                 return CountField::No(Refusal::TooMany);
             }
-            if room < n {
+            let no_room = room < n;
+            if no_room {
                 return CountField::No(Refusal::NoRoom);
             }
             CountField::Is(n, d)

@@ -70,7 +70,8 @@ fn unclean(c: Cursor, s: &[u8]) -> bool
     ensures { Unless (Padding (left c s.now)) result }
 {
     let rest = c.left();
-    if 7 < rest {
+    let longer = 7 < rest;
+    if longer {
         return true;
     }
     if bits::number::number(s, c.at().bit(), rest) == 0 {

@@ -33,7 +33,8 @@ fn formed(c: Cursor, d: Cursor, s: &[u8], code: Words, w: u32) -> Correction
     requires { Within c (length s.now) × Taken (word Word (image_by code)) s.now c w d }
     ensures { ToldCorrection (image_by code) s.now c result }
 {
-    if w == 1 {
+    let is_none = w == 1;
+    if is_none {
         return Correction::No(Refusal::OutOfRange, c.at());
     }
     Correction::Is(halved(w), d)

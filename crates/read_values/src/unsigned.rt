@@ -29,7 +29,8 @@ fn formed(c: Cursor, d: Cursor, s: &[u8], code: Words, w: u32, instants: bool, b
 {
     if instants {
         let v = before as u64 + w as u64 - 1;
-        if LARGEST_INSTANT < v {
+        let beyond = LARGEST_INSTANT < v;
+        if beyond {
             return Value::No(Refusal::OutOfRange, c.at());
         }
         return Value::Is(v as u32, d);

@@ -14,7 +14,8 @@ pub enum Placed {
 pub fn span(s: &[u8], start: BitPos, stop: BitPos) -> Placed
     ensures { ToldPlace s.now start stop result }
 {
-    if LONGEST_BUFFER < s.len() {
+    let too_long = LONGEST_BUFFER < s.len();
+    if too_long {
         return Placed::Outside;
     }
     if stop.bit() < start.bit() {

@@ -13,13 +13,15 @@ pub fn write_end(buf: &mut [u8], start: BitPos) -> Wrote
 {
     let bytes = buf.len();
     let at = start.bit();
-    if LONGEST_BUFFER < bytes {
+    let too_long = LONGEST_BUFFER < bytes;
+    if too_long {
         return Wrote::Outside;
     }
     if 8 * bytes < at {
         return Wrote::Outside;
     }
-    if 8 * bytes - at < 4 {
+    let full = 8 * bytes - at < 4;
+    if full {
         return Wrote::Full;
     }
     // the mark's fourth zero tells the byte to whose end the zeros go

@@ -9,8 +9,8 @@ pub returns-then-first-eq0 : goal.returns-then-first-eq0
 returns-then-first-eq0 c = unsettled refl
 
 -- at After-pack
-pub returns-then-first-lt128 : goal.returns-then-first-lt128
-returns-then-first-lt128 c = group_seen (omega (arith, c.if-first-eq0.false)) c.if-first-lt128.true c.pack.ensures
+pub returns-then-alone : goal.returns-then-alone
+returns-then-alone c = group_seen (omega (arith, c.if-first-eq0.false)) c.if-alone.true c.pack.ensures
 
 -- at Then-first-eq128
 pub returns-then-first-eq128 : goal.returns-then-first-eq128
@@ -18,7 +18,7 @@ returns-then-first-eq128 c = unsettled refl
 
 -- the first group is one that others follow
 followed : (c : Else-first-eq128) → let first = c.args.n / 2 ^ 56 in (128 < first) × (first < 256)
-followed c = (omega (arith, c.if-first-lt128.false, c.if-first-eq128.false), omega (arith, c.ranges.n))
+followed c = (omega (arith, c.if-alone.false, c.if-first-eq128.false), omega (arith, c.ranges.n))
 
 -- at After-pack-then-second-lt128
 pub returns-then-second-lt128 : goal.returns-then-second-lt128

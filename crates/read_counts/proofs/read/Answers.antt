@@ -7,24 +7,24 @@ use Rattle.read_counts.proofs.read.Goals as goal
 pub overflow_sub-n : goal.overflow_sub-n
 overflow_sub-n c = search (rules, word_some)
 
--- at Then-n-gt-LONGEST_LIST
-pub returns-then-n-gt-LONGEST_LIST : goal.returns-then-n-gt-LONGEST_LIST
-returns-then-n-gt-LONGEST_LIST c =
+-- at Then-too_many
+pub returns-then-too_many : goal.returns-then-too_many
+returns-then-too_many c =
     let n = c.in-Took.w - 1 in
     let many : longest_list < n = omega arith in
     count_many c.read.ensures c.args.room c.in-Took.is n refl c.requires many
 
--- at Then-room-n
-pub returns-then-room-n : goal.returns-then-room-n
-returns-then-room-n c =
+-- at Then-no_room
+pub returns-then-no_room : goal.returns-then-no_room
+returns-then-no_room c =
     let n = c.in-Took.w - 1 in
     let few : n ≤ longest_list = omega arith in
     let above : c.args.room < n = omega arith in
     count_above c.read.ensures c.args.room c.in-Took.is n refl c.requires few above
 
--- at Else-room-n
-pub returns-else-room-n : goal.returns-else-room-n
-returns-else-room-n c =
+-- at Else-no_room
+pub returns-else-no_room : goal.returns-else-no_room
+returns-else-no_room c =
     let n = c.in-Took.w - 1 in
     let few : n ≤ longest_list = omega arith in
     let fits : n ≤ c.args.room = omega arith in

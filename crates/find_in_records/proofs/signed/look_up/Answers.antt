@@ -16,20 +16,20 @@ judge-requires c =
     let k = was_body c.read.ensures c.in-Body.is in
     (k.reached.within, headed_for k, k.legal.count)
 
--- at Then-place-n
-pub returns-then-place-n : goal.returns-then-place-n
-returns-then-place-n c =
+-- at Then-within
+pub returns-then-within : goal.returns-then-within
+returns-then-within c =
     let k = was_body c.read.ensures c.in-Body.is in
     let w = were_whole c.judge.ensures c.in-Whole.is in
     let fits : SFits w32 c.in-Whole.v = search rules in
-    rw (to_z-of_z fits) (found_correction k w.1 w.2 (omega (arith, c.if-place-n.true)))
+    rw (to_z-of_z fits) (found_correction k w.1 w.2 (omega (arith, c.if-within.true)))
 
 -- at After-new
-pub returns-else-place-n : goal.returns-else-place-n
-returns-else-place-n c =
+pub returns-else-within : goal.returns-else-within
+returns-else-within c =
     let k = was_body c.read.ensures c.in-Body.is in
     let w = were_whole c.judge.ensures c.in-Whole.is in
-    beyond_correction k w.1 (omega (arith, c.if-place-n.false)) c.new.ensures
+    beyond_correction k w.1 (omega (arith, c.if-within.false)) c.new.ensures
 
 -- at In-No-judge
 pub returns-in-No-judge : goal.returns-in-No-judge

@@ -18,11 +18,11 @@ overflow_add-all c =
     let e = shifted a.self a.width a.value c.requires.0.held c.requires.2 c.requires.3 in
     omega (arith, e.0, e.1)
 
--- at Then-count-lt32
-pub returns-then-count-lt32 : goal.returns-then-count-lt32
-returns-then-count-lt32 c =
+-- at Then-few
+pub returns-then-few : goal.returns-then-few
+returns-then-few c =
     let a = c.args in
-    field_gathered a.buf.now a.self a.width a.value _ c.requires.0 c.requires.1 c.requires.3 (whole (goal.at.returns-then-count-lt32 c).Start) c.after-next.result c.after-next.ensures (omega (arith, c.if-count-lt32.true, c.bit-at.ensures))
+    field_gathered a.buf.now a.self a.width a.value _ c.requires.0 c.requires.1 c.requires.3 (whole (goal.at.returns-then-few c).Start) c.after-next.result c.after-next.ensures (omega (arith, c.if-few.true, c.bit-at.ensures))
 
 -- at After-new
 pub overflow_cast-all-2 : goal.overflow_cast-all-2
@@ -30,7 +30,7 @@ overflow_cast-all-2 c =
     let a = c.args in
     let b = c.bit-at in
     let r = b.result % 32 + a.width - 32 in
-    let e : a.self.at.0 % 32 + a.width ≡ 32 + r = omega (arith, b.ensures, c.if-count-lt32.false) in
+    let e : a.self.at.0 % 32 + a.width ≡ 32 + r = omega (arith, b.ensures, c.if-few.false) in
     record { fits = shr_lt 32 r (subst (λ (n : ℕ). a.self.gathered * 2 ^ a.width % 2 ^ 64 + a.value < 2 ^ n) e (all_lt a.buf.now a.self a.width a.value _ c.requires.0 c.requires.1 c.requires.3 (whole (goal.at.overflow_cast-all-2 c).Start))) }
 
 -- at After-power
@@ -40,7 +40,7 @@ returns c =
     let b = c.bit-at in
     let on = c.after-next in
     let r = b.result % 32 + a.width - 32 in
-    let e : a.self.at.0 % 32 + a.width ≡ 32 + r = omega (arith, b.ensures, c.if-count-lt32.false) in
+    let e : a.self.at.0 % 32 + a.width ≡ 32 + r = omega (arith, b.ensures, c.if-few.false) in
     let f : 8 * c.new.result.0 ≡ first_of a.self.at.0 = omega (arith, b.ensures, c.new.ensures) in
     let all = a.self.gathered * 2 ^ a.width % 2 ^ 64 + a.value in
     subst (λ (m : ℕ). Drawn (in_bits a.width a.value) a.buf.now a.self c.store.new.buf (record { at = on.result; gathered = all % m })) (sym c.power.ensures.0)

@@ -9,11 +9,11 @@ overflow_sub-v c =
     omega (arith, c.requires.1.takes.valid.0)
 
 -- at After-at
-pub returns-then-v-gt-LARGEST_INSTANT : goal.returns-then-v-gt-LARGEST_INSTANT
-returns-then-v-gt-LARGEST_INSTANT c =
+pub returns-then-beyond : goal.returns-then-beyond
+returns-then-beyond c =
     rw (c.if-instants.true, c.at.ensures) (no (instant_out c.requires.1 c.requires.0 c.args.before (omega arith)))
 
--- at Else-v-gt-LARGEST_INSTANT
+-- at Else-beyond
 pub returns-then-instants : goal.returns-then-instants
 returns-then-instants c =
     rw c.if-instants.true (is (instant_is c.requires.1 c.args.before (omega arith)))

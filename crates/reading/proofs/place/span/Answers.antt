@@ -2,9 +2,9 @@ use Rattle.std.proofs.Common.{arith, rules}
 use Rattle.reading.specs.Laws.Places.{place_long, place_order, place_past, place_right}
 use Rattle.reading.proofs.place.span.Goals as goal
 
--- at Then-s-gt-LONGEST_BUFFER
-pub returns-then-s-gt-LONGEST_BUFFER : goal.returns-then-s-gt-LONGEST_BUFFER
-returns-then-s-gt-LONGEST_BUFFER c = place_long _ _ _ (omega (arith, c.if-s-gt-LONGEST_BUFFER.true))
+-- at Then-too_long
+pub returns-then-too_long : goal.returns-then-too_long
+returns-then-too_long c = place_long _ _ _ (omega (arith, c.if-too_long.true))
 
 -- at Then-bit
 pub returns-then-bit : goal.returns-then-bit
@@ -16,4 +16,4 @@ returns-then-s-bit c = place_past _ _ _ (omega (arith, c.if-s-bit.true, c.bit-3.
 
 -- at After-new
 pub returns : goal.returns
-returns c = place_right _ _ _ c.new.ensures.0 (omega (arith, c.if-s-gt-LONGEST_BUFFER.false)) (search rules) (search rules)
+returns c = place_right _ _ _ c.new.ensures.0 (omega (arith, c.if-too_long.false)) (search rules) (search rules)
