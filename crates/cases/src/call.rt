@@ -3,6 +3,7 @@ ghost use Rattle.std.specs.Prelude.{◌≤◌, length};
 
 use crate::{memory, say, words};
 use bits::BitPos;
+use std::io;
 
 // The numbers of a case, and those that may be positions or a place as such.
 #[derive(Clone, Copy)]
@@ -38,44 +39,58 @@ impl Numbers {
     }
 }
 
-fn write_corrections(n: Numbers, buf: &mut [u8], list: &[u32])
+fn write_corrections(rt: &impl Print, n: Numbers, buf: &mut [u8], list: &[u32]) -> io::Result<()>
     requires { length list.now ≤ 65538 }
 {
     let start = n.start;
     let mut signed = memory::signed_list();
     let count = list.len();
     memory::corrections(list, &mut signed);
-    say::wrote(moortangle::record::write_corrections(
+    let wrote = moortangle::record::write_corrections(
         buf,
         start,
         n.second,
         n.third,
         n.fourth,
         &signed[..count],
-    ));
+    );
+    say::wrote(rt, wrote)
 }
 
 // The entries that may change the bytes.
-fn write(entry: usize, n: Numbers, buf: &mut [u8], list: &[u32])
+fn write(rt: &impl Print, entry: usize, n: Numbers, buf: &mut [u8], list: &[u32]) -> io::Result<()>
     requires { length list.now ≤ 65538 }
 {
     let start = n.start;
     match entry {
-        0 => say::wrote(moortangle::record::write(buf, start, n.second, n.third, n.fourth, list)),
-        1 => write_corrections(n, buf, list),
-        2 => say::wrote(moortangle::end::write_end(buf, start)),
-        3 => words::write(start, n.second, n.third, n.fourth, buf),
-        _ => {}
+        0 => say::wrote(
+            rt,
+            moortangle::record::write(buf, start, n.second, n.third, n.fourth, list),
+        ),
+        1 => write_corrections(rt, n, buf, list),
+        2 => say::wrote(rt, moortangle::end::write_end(buf, start)),
+        3 => words::write(rt, start, n.second, n.third, n.fourth, buf),
+        _ => Ok(()),
     }
 }
 
-fn read_signed(start: BitPos, stop: BitPos, kind: u32, s: &[u8], list: &mut [i32]) {
-    say::read(moortangle::record::read_corrections(s, start, stop, kind, list));
-    say::corrections(list);
+fn read_signed(
+    rt: &impl Print,
+    start: BitPos,
+    stop: BitPos,
+    kind: u32,
+    s: &[u8],
+    list: &mut [i32],
+) -> io::Result<()> {
+    say::read(
+        rt,
+        moortangle::record::read_corrections(s, start, stop, kind, list),
+    )?;
+    say::corrections(rt, list)
 }
 
 // Corrections are read into a list of their own, and that is printed.
-fn read_corrections(n: Numbers, s: &[u8], list: &[u32])
+fn read_corrections(rt: &impl Print, n: Numbers, s: &[u8], list: &[u32]) -> io::Result<()>
     requires { length list.now ≤ 65538 }
 {
     let start = n.start;
@@ -83,58 +98,68 @@ fn read_corrections(n: Numbers, s: &[u8], list: &[u32])
     let mut signed = memory::signed_list();
     let count = list.len();
     memory::corrections(list, &mut signed);
-    read_signed(start, stop, n.third, s, &mut signed[..count]);
+    read_signed(rt, start, stop, n.third, s, &mut signed[..count])
 }
 
 // The entries that may change the list.
-fn read(entry: usize, n: Numbers, s: &[u8], list: &mut [u32])
+fn read(rt: &impl Print, entry: usize, n: Numbers, s: &[u8], list: &mut [u32]) -> io::Result<()>
     requires { length list.old ≤ 65538 }
 {
     let start = n.start;
     let stop = n.stop;
     match entry {
-        4 => say::read(moortangle::record::read(s, start, stop, n.third, list)),
-        5 => read_corrections(n, s, list),
-        _ => {}
+        4 => say::read(rt, moortangle::record::read(s, start, stop, n.third, list)),
+        5 => read_corrections(rt, n, s, list),
+        _ => Ok(()),
     }
 }
 
 // The entries that change nothing.
-fn look(entry: usize, n: Numbers, s: &[u8]) {
+fn look(rt: &impl Print, entry: usize, n: Numbers, s: &[u8]) -> io::Result<()> {
     let start = n.start;
     let stop = n.stop;
     match entry {
-        6 => words::read(start, stop, n.third, n.fourth, s),
-        7 => say::looked_up(moortangle::find::look_up(s, start, stop, n.fourth, n.place)),
-        8 => say::looked_up_correction(moortangle::find::look_up_correction(
-            s, start, stop, n.fourth, n.place,
-        )),
-        9 => say::searched(moortangle::find::search(s, start, stop, n.third)),
-        10 => say::checked(moortangle::stream::check(s)),
-        11 => words::count(n.first, n.second, n.third),
-        12 => say::not_a_case(),
-        _ => {}
+        6 => words::read(rt, start, stop, n.third, n.fourth, s),
+        7 => say::looked_up(
+            rt,
+            moortangle::find::look_up(s, start, stop, n.fourth, n.place),
+        ),
+        8 => say::looked_up_correction(
+            rt,
+            moortangle::find::look_up_correction(s, start, stop, n.fourth, n.place),
+        ),
+        9 => say::searched(rt, moortangle::find::search(s, start, stop, n.third)),
+        10 => say::checked(rt, moortangle::stream::check(s)),
+        11 => words::count(rt, n.first, n.second, n.third),
+        12 => say::not_a_case(rt),
+        _ => Ok(()),
     }
 }
 
 // Lent memory that an entry may have changed.
-fn memory_after(entry: usize, buf: &[u8], list: &[u32])
+fn memory_after(rt: &impl Print, entry: usize, buf: &[u8], list: &[u32]) -> io::Result<()>
     requires { length buf.now ≤ 65538 }
 {
     match entry {
-        0..=3 => say::bytes(buf),
-        4 => say::items(list, 10),
-        _ => {}
+        0..=3 => say::bytes(rt, buf),
+        4 => say::items(rt, list, 10),
+        _ => Ok(()),
     }
 }
 
 // Of the first three one knows the entry.
-pub(crate) fn call(entry: usize, given: [u32; 5], buf: &mut [u8], list: &mut [u32])
+pub(crate) fn call(
+    rt: &impl Print,
+    entry: usize,
+    given: [u32; 5],
+    buf: &mut [u8],
+    list: &mut [u32],
+) -> io::Result<()>
     requires { (length buf.old ≤ 65538) × (length list.old ≤ 65538) }
 {
     let n = Numbers::of(given);
-    write(entry, n, buf, list);
-    read(entry, n, buf, list);
-    look(entry, n, buf);
-    memory_after(entry, buf, list);
+    write(rt, entry, n, buf, list)?;
+    read(rt, entry, n, buf, list)?;
+    look(rt, entry, n, buf)?;
+    memory_after(rt, entry, buf, list)
 }

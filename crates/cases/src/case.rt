@@ -2,6 +2,7 @@
 ghost use Rattle.std.specs.Prelude.{◌≤◌, length};
 
 use crate::{call, entry, memory, say, scan};
+use std::io;
 
 // Where the part of a line that begins at a place ends: at the next bar, or with the line.
 fn end(line: &[u8], at: usize) -> usize
@@ -11,11 +12,11 @@ fn end(line: &[u8], at: usize) -> usize
     if at == line.len() {
         return at;
     }
-    bytes::scan::find(line, at + 1, line.len(), b'|')
+    scan::find(line, at + 1, line.len(), b'|')
 }
 
 // The numbers after the name, the bytes after a bar, and the list after another.
-fn case(line: &[u8], name: usize)
+fn case(rt: &impl Print, line: &[u8], name: usize) -> io::Result<()>
     requires { name ≤ length line.now }
 {
     let mut n = [0u32; 5];
@@ -28,7 +29,7 @@ fn case(line: &[u8], name: usize)
     memory::narrow(&list, &mut buf);
     let count = scan::items(line, second, line.len(), 10, &mut list);
     let entry = entry::fitting(entry::numbered(line, name), given, size, count);
-    call::call(entry, n, &mut buf[..size], &mut list[..count]);
+    call::call(rt, entry, n, &mut buf[..size], &mut list[..count])
 }
 
 // A line for the reader alone.
@@ -40,10 +41,10 @@ fn is_remark(line: &[u8]) -> bool {
 }
 
 // What comes after the line itself.
-pub(crate) fn answer(line: &[u8]) {
+pub(crate) fn answer(rt: &impl Print, line: &[u8]) -> io::Result<()> {
     if is_remark(line) {
-        return;
+        return Ok(());
     }
-    say::text(b" =");
-    case(line, bytes::scan::find(line, 0, line.len(), b' '));
+    say::text(rt, b" =")?;
+    case(rt, line, scan::find(line, 0, line.len(), b' '))
 }

@@ -2,6 +2,11 @@
 // with the file stdout.
 #![tactic(auto)]
 
+ghost use Rattle.std.specs.Prelude.{◌≤◌, length, IfOk};
+
+use std::io;
+use std::io::Read;
+
 mod call;
 mod case;
 mod entry;
@@ -11,23 +16,40 @@ mod scan;
 mod words;
 
 // Each line, and what comes back of it.
-fn lines(text: &[u8]) {
+fn lines(rt: &impl Print, text: &[u8]) -> io::Result<()> {
     let mut at = 0;
     while at < text.len() {
-        let end = bytes::scan::find(text, at, text.len(), b'\n');
+        let end = scan::find(text, at, text.len(), b'\n');
         let line = &text[at..end];
-        say::text(line);
-        case::answer(line);
-        say::text(b"\n");
+        say::text(rt, line)?;
+        case::answer(rt, line)?;
+        say::text(rt, b"\n")?;
         at = end + 1;
     }
+    Ok(())
 }
 
-fn main() {
-    let mut text = io::large_buffer();
-    let count = io::read_full(0, &mut text);
-    lines(&text[..count]);
-    if count == text.len() {
-        say::text(b"more cases than there is room for\n");
+// What an input has, up to as many bytes as there is room for: how many those are.
+fn read_full(input: &mut impl Read, room: &mut [u8]) -> io::Result<usize>
+    ensures { IfOk result (λ n. n ≤ length room.new) }
+{
+    let mut count = 0;
+    while count < room.len() {
+        let more = input.read(&mut room[count..])?;
+        if more == 0 {
+            break;
+        }
+        count += more;
     }
+    Ok(count)
+}
+
+fn main(rt: HostRuntime) -> io::Result<()> {
+    let mut text = [0u8; 65536];
+    let count = read_full(&mut rt.stdin(), &mut text)?;
+    lines(&rt, &text[..count])?;
+    if count == text.len() {
+        say::text(&rt, b"more cases than there is room for\n")?;
+    }
+    Ok(())
 }

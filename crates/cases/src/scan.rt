@@ -1,5 +1,20 @@
 // The items of a part of a line: numbers with a space before each.
-ghost use Rattle.std.specs.Prelude.{◌≤◌, length};
+ghost use Rattle.std.specs.Prelude.{◌≡◌, ◌≢◌, ℕ, ◌<◌, ◌≤◌, length, slice_index};
+
+// The first place from one on and below another where a byte stands, and the other if it stands at none.
+pub(crate) fn find(line: &[u8], at: usize, upto: usize, b: u8) -> usize
+    requires { (at ≤ upto) × (upto ≤ length line.now) }
+    ensures within { (at ≤ result) × (result ≤ upto) }
+    ensures before { (k : ℕ) → at ≤ k → k < result → slice_index line.now k ≢ b }
+    ensures found { result < upto → slice_index line.now result ≡ b }
+{
+    for i in at..upto {
+        if line[i] == b {
+            return i;
+        }
+    }
+    upto
+}
 
 // What is read of an item: a number, the sign before it if there is one, and after a star how many times it is given.
 #[derive(Clone, Copy)]
@@ -131,7 +146,7 @@ fn before(list: &[u32], at: usize, back: usize) -> u32 {
 fn meant(list: &[u32], at: usize, sign: u8, value: u32) -> u32 {
     match sign {
         b'~' => before(list, at, value as usize),
-        b'-' => std::num::wrapping_sub_u32(0, value),
+        b'-' => value.wrapping_neg(),
         _ => value,
     }
 }
@@ -167,7 +182,7 @@ pub(crate) fn items(line: &[u8], from: usize, upto: usize, base: u64, list: &mut
     let mut count = 0;
     let mut at = from;
     while at < upto {
-        let end = bytes::scan::find(line, at, upto, b' ');
+        let end = find(line, at, upto, b' ');
         count = put(list, count, item(line, at, end, base));
         at = end + 1;
     }

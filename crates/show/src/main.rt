@@ -2,7 +2,7 @@
 // what stands there is stated; then it is written.
 #![tactic(auto)]
 
-ghost use Rattle.std.specs.Prelude.{◌≡◌, ◌+◌, ◌≤◌, length};
+ghost use Rattle.std.specs.Prelude.{◌≡◌, ◌+◌, ◌≤◌, length, IfOk};
 ghost use Rattle.format.specs.Limits.{longest_buffer, longest_list};
 ghost use Rattle.lines.specs.Text.{longest_line};
 ghost use Rattle.show.specs.Next.{GoesOn};
@@ -13,6 +13,8 @@ use limits::{LONGEST_BUFFER, LONGEST_LIST};
 use lines::LONGEST_LINE;
 use read_streams::Checked;
 use records::Line;
+use std::io;
+use std::io::Read;
 
 mod records;
 
@@ -53,14 +55,20 @@ fn begin(s: &[u8], out: &mut [u8]) -> Begun
     }
 }
 
-fn write(out: &[u8], bytes: usize)
+fn write(rt: &impl Print, out: &[u8], bytes: usize) -> io::Result<()>
     requires { bytes ≤ length out.now }
 {
-    io::write_all(1, &out[..bytes]);
+    rt.write_all(&out[..bytes])
 }
 
 // Every line, up to the end's. Each record begins after the one before it, so there is a last one.
-fn print(s: &[u8], values: &mut [u32], corrections: &mut [i32], out: &mut [u8])
+fn print(
+    rt: &impl Print,
+    s: &[u8],
+    values: &mut [u32],
+    corrections: &mut [i32],
+    out: &mut [u8],
+) -> io::Result<()>
     requires goes_on { GoesOn s.now 0 × (longest_line ≤ length out.old) }
     requires longest_list_in_bounds { (longest_list ≤ length values.old) × (longest_list ≤ length corrections.old) }
 {
@@ -68,29 +76,41 @@ fn print(s: &[u8], values: &mut [u32], corrections: &mut [i32], out: &mut [u8])
     loop {
         match records::step(s, at, values, corrections, out) {
             Line::More(bytes, after) => {
-                write(out, bytes);
+                write(rt, out, bytes)?;
                 at = after;
             }
-            Line::Last(bytes) => {
-                write(out, bytes);
-                return;
-            }
+            Line::Last(bytes) => return write(rt, out, bytes),
         }
     }
 }
 
-fn show(s: &[u8]) {
+fn show(rt: &impl Print, s: &[u8]) -> io::Result<()> {
     let mut values = [0u32; LONGEST_LIST];
     let mut corrections = [0i32; LONGEST_LIST];
     let mut out = room_for_a_line();
     match begin(s, &mut out) {
-        Begun::Stream => print(s, &mut values, &mut corrections, &mut out),
-        Begun::Refused(bytes) => write(&out, bytes),
+        Begun::Stream => print(rt, s, &mut values, &mut corrections, &mut out),
+        Begun::Refused(bytes) => write(rt, &out, bytes),
     }
 }
 
-fn main() {
+// What an input has, up to as many bytes as there is room for: how many those are.
+fn read_full(input: &mut impl Read, room: &mut [u8]) -> io::Result<usize>
+    ensures { IfOk result (λ n. n ≤ length room.new) }
+{
+    let mut count = 0;
+    while count < room.len() {
+        let more = input.read(&mut room[count..])?;
+        if more == 0 {
+            break;
+        }
+        count += more;
+    }
+    Ok(count)
+}
+
+fn main(rt: HostRuntime) -> io::Result<()> {
     let mut input = room();
-    let count = io::read_full(0, &mut input);
-    show(&input[..count]);
+    let count = read_full(&mut rt.stdin(), &mut input)?;
+    show(&rt, &input[..count])
 }
