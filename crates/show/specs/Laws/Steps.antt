@@ -14,7 +14,6 @@ use Rattle.lines.specs.Laws.Stands.{stands_first}
 use Rattle.reading.specs.declared.Refusal.{Refusal}
 use Rattle.read_records.specs.declared.Read.{Read}
 use Rattle.read_records.specs.declared.Read.TheVariants.{Record, End, Refused}
-use Rattle.show.specs.Next as Next
 use Rattle.show.specs.Next.{Next, GoesOn}
 use Rattle.show.specs.Laws.Next.{goes_first}
 use Rattle.show.specs.Steps as Steps
