@@ -2,7 +2,8 @@
 // with the file stdout.
 #![tactic(auto)]
 
-ghost use Rattle.std.specs.Prelude.{◌≤◌, length, IfOk};
+ghost use Rattle.std.specs.Prelude.{◌<◌, ◌≤◌, length, take, IfOk};
+ghost use Rattle.std.specs.Io.KnownBytes.{Consumes, IsAtEnd};
 
 use std::io;
 use std::io::Read;
@@ -30,8 +31,10 @@ fn lines(rt: &impl Print, text: &[u8]) -> io::Result<()> {
 }
 
 // What an input has, up to as many bytes as there is room for: how many those are.
-fn read_full(input: &mut impl Read, room: &mut [u8]) -> io::Result<usize>
-    ensures { IfOk result (λ n. n ≤ length room.new) }
+fn read_full<R: Read>(input: &mut R, room: &mut [u8]) -> io::Result<usize>
+    ensures within { IfOk result (λ n. n ≤ length room.new) }
+    ensures bytes { IfOk result (λ n. Consumes (R.remaining input.old) (R.remaining input.new) (take n room.new)) }
+    ensures whole { IfOk result (λ n. n < length room.new → IsAtEnd (R.remaining input.new)) }
 {
     let mut count = 0;
     while count < room.len() {
