@@ -3,7 +3,6 @@ use Rattle.std.specs.Prelude.{◌≡◌, refl, Bool, true, false, List, [], ◌�
 use Rattle.std.proofs.Common.{sym, ap, ap₂, ◌∙◌, le_refl, arith, get_or-take, take_all, length-take-le}
 use Rattle.std.proofs.Math.Decide.{dec_lt}
 use Rattle.format.specs.Kinds.{Instants, kind_number, Family, Unsigned, natural}
-use Rattle.format.specs.Records.{Record}
 use Rattle.format.specs.Answers.{Outcome, refuses, gives}
 use Rattle.format.specs.Reading as Reading
 use Rattle.format.specs.Reading.{LooksUp, below, Searches}

@@ -1,5 +1,5 @@
 -- Records written in turn, by calls that succeed: demand 3 of the functions, from the entries' contracts alone.
-use Rattle.std.specs.Prelude.{◌≡◌, refl, Bool, List, [], ◌∷◌, ◌++◌, ℕ, suc, ◌+◌, ◌-◌, ◌*◌, ◌≤◌, length, take, drop}
+use Rattle.std.specs.Prelude.{◌≡◌, refl, Bool, List, [], ◌∷◌, ◌++◌, ℕ, suc, ◌+◌, ◌*◌, ◌≤◌, length, take, drop}
 use Rattle.std.proofs.Common.{sym, ap, ◌∙◌, subst, le_refl, arith, length-append}
 use Rattle.std.proofs.Math.Seq.{slice_empty}
 use Rattle.layout.specs.Bits.{bits_of, put, window}

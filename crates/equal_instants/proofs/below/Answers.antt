@@ -2,10 +2,8 @@ use Rattle.std.proofs.Common.{arith}
 use Rattle.equal_instants.specs.Laws.Sums.{equal_below, equal_above}
 use Rattle.equal_instants.proofs.below.Goals as goal
 
--- at Then-t-sought
 pub returns-then-t-sought : goal.returns-then-t-sought
 returns-then-t-sought c = let a = c.args in (λ start. equal_below a.sought start a.n a.t (omega arith), omega arith)
 
--- at Else-t-sought
 pub returns : goal.returns
 returns c = let a = c.args in (λ start. equal_above a.sought start a.n a.t (omega arith), omega arith)

@@ -7,22 +7,18 @@ use Rattle.flat_answers.specs.Reads.{flat_read}
 use Rattle.format.specs.Answers.{refuses}
 use Rattle.flat_answers.proofs.record_of.Goals as goal
 
--- at After-parameter
 pub overflow_cast-result : goal.overflow_cast-result
 overflow_cast-result c =
     omega (arith, few_record c.in-Record.is c.requires)
 
--- at After-parameter
 pub returns-in-Record : goal.returns-in-Record
 returns-in-Record c =
     (λ i. record { answer = 0; told = c.bit.ensures i; end = 0; code = c.code_number.ensures.0 i; kind = c.kind_number.ensures.0 i; parameter = c.parameter.ensures i; count = c.in-Record.n }) ∙ sym (ap flat_read c.in-Record.is)
 
--- at After-bit-in-End
 pub returns-in-End : goal.returns-in-End
 returns-in-End c =
     ap (λ (t : ℕ). flat_record (gives (ended t))) c.bit-in-End.ensures ∙ sym (ap flat_read c.in-End.is)
 
--- at After-bit-in-Refused
 pub returns-in-Refused : goal.returns-in-Refused
 returns-in-Refused c =
     (λ i. flat_record (refuses (c.number.ensures i) (c.bit-in-Refused.ensures i))) ∙ sym (ap flat_read c.in-Refused.is)

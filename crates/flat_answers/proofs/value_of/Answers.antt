@@ -4,10 +4,8 @@ use Rattle.flat_answers.specs.Flat.{flat_value}
 use Rattle.flat_answers.specs.Laws.Flat.{of_arm, of_refusal}
 use Rattle.flat_answers.proofs.value_of.Goals as goal
 
--- at In-Value
 pub returns-in-Value : goal.returns-in-Value
 returns-in-Value c = of_arm flat_value looked_up c.in-Value.is
 
--- at After-bit
 pub returns-in-Refused : goal.returns-in-Refused
 returns-in-Refused c = of_refusal flat_value looked_up c.in-Refused.is refl c.number.ensures c.bit.ensures

@@ -5,30 +5,23 @@ use Rattle.flat_answers.specs.Flat.{flat_written}
 use Rattle.flat_answers.specs.Laws.Flat.{of_arm}
 use Rattle.flat_answers.proofs.written_of.Goals as goal
 
--- at After-bit
 pub returns-in-Done : goal.returns-in-Done
 returns-in-Done c = ap (λ (p : ℕ). flat_written (gives p)) c.bit.ensures ∙ of_arm flat_written outcome_of c.in-Done.is
 
--- at In-TooMany
 pub returns-in-TooMany : goal.returns-in-TooMany
 returns-in-TooMany c = of_arm flat_written outcome_of c.in-TooMany.is
 
--- at In-OutOfRange
 pub returns-in-OutOfRange : goal.returns-in-OutOfRange
 returns-in-OutOfRange c = of_arm flat_written outcome_of c.in-OutOfRange.is
 
--- at In-Falls
 pub returns-in-Falls : goal.returns-in-Falls
 returns-in-Falls c = of_arm flat_written outcome_of c.in-Falls.is
 
--- at In-Unknown
 pub returns-in-Unknown : goal.returns-in-Unknown
 returns-in-Unknown c = of_arm flat_written outcome_of c.in-Unknown.is
 
--- at In-Full
 pub returns-in-Full : goal.returns-in-Full
 returns-in-Full c = of_arm flat_written outcome_of c.in-Full.is
 
--- at In-Outside
 pub returns-in-Outside : goal.returns-in-Outside
 returns-in-Outside c = of_arm flat_written outcome_of c.in-Outside.is

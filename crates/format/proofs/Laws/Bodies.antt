@@ -1,6 +1,6 @@
 -- The body of each code: no list's bits are the beginning of another's, every list of bits has its answer, and the lists that it holds
 -- are those of its kind.
-use Rattle.std.specs.Prelude.{◌≡◌, refl, Bool, List, [], ◌∷◌, map, ℕ, zero, suc, ◌-◌, ℤ, pos, negsuc, length}
+use Rattle.std.specs.Prelude.{◌≡◌, refl, Bool, List, [], ◌∷◌, map, ℕ, zero, suc, ℤ, pos, negsuc, length}
 use Rattle.std.proofs.Common.{sym, ap, ap₂, ◌∙◌, subst, arith}
 use Rattle.std.proofs.lemmas.List.{length-map}
 use Rattle.layout.specs.Layout.{Layout, PrefixFree, word, only, chain, All}

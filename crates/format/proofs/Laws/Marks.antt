@@ -1,5 +1,5 @@
 -- The bits of a record: the same whoever asks for it, and never begun as the end mark.
-use Rattle.std.specs.Prelude.{◌≡◌, refl, Bool, List, ◌++◌, ◌+◌, ◌<◌, length}
+use Rattle.std.specs.Prelude.{◌≡◌, refl, Bool, List, ◌++◌, ◌<◌, length}
 use Rattle.std.proofs.Common.{sym, ap, ◌∙◌, append_assoc, arith, length-append}
 use Rattle.layout.specs.Bits.{odd, in_bits}
 use Rattle.layout.specs.Layout.{Takes, NonEmpty}

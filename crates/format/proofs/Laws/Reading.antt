@@ -1,5 +1,5 @@
 -- What a reader, look-up, search and the stream check say is exactly one thing, whatever they are given.
-use Rattle.std.specs.Prelude.{◌≡◌, refl, Bool, ℕ, zero, suc, ◌+◌, ◌-◌, ◌*◌, ◌≤◌, ◌<◌, ℤ, pos, length, get_or}
+use Rattle.std.specs.Prelude.{◌≡◌, refl, Bool, ℕ, zero, suc, ◌+◌, ◌*◌, ◌≤◌, ◌<◌, ℤ, pos, length, get_or}
 use Rattle.std.proofs.Common.{sym, ap, ap₂, ◌∙◌, subst, subst₂, le_refl, arith}
 use Rattle.std.proofs.Math.Bool.{Bool-discrete}
 use mathlib.Core.List.{List, ◌++◌, append_cancel_left, List-discrete}

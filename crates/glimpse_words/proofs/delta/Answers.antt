@@ -4,11 +4,9 @@ use Rattle.glimpse_words.specs.Laws.Glimpsed.{length_seen, delta_seen}
 use Rattle.glimpse_words.specs.Glimpsed.{unsettled, seen}
 use Rattle.glimpse_words.proofs.delta.Goals as goal
 
--- at Then-n-lt288230376151711744
 pub returns-then-n-lt288230376151711744 : goal.returns-then-n-lt288230376151711744
 returns-then-n-lt288230376151711744 c = unsettled refl
 
--- at Else-n-lt288230376151711744
 pub overflow_mul-head : goal.overflow_mul-head
 overflow_mul-head c =
     let n : ℕ = c.args.n in
@@ -16,7 +14,6 @@ overflow_mul-head c =
     let (few, some, most, image) = length_seen n z (omega (arith, c.if-n-lt288230376151711744.false)) c.ranges.n.fits refl in
     omega arith
 
--- at Else-n-lt288230376151711744
 pub overflow_add-head : goal.overflow_add-head
 overflow_add-head c =
     let n : ℕ = c.args.n in
@@ -24,7 +21,6 @@ overflow_add-head c =
     let (few, some, most, image) = length_seen n z (omega (arith, c.if-n-lt288230376151711744.false)) c.ranges.n.fits refl in
     omega arith
 
--- at Else-n-lt288230376151711744
 pub overflow_sub-size : goal.overflow_sub-size
 overflow_sub-size c =
     let n : ℕ = c.args.n in
@@ -32,7 +28,6 @@ overflow_sub-size c =
     let (few, some, most, image) = length_seen n z (omega (arith, c.if-n-lt288230376151711744.false)) c.ranges.n.fits refl in
     omega arith
 
--- at Else-n-lt288230376151711744
 pub overflow_cast-size : goal.overflow_cast-size
 overflow_cast-size c =
     let n : ℕ = c.args.n in
@@ -40,7 +35,6 @@ overflow_cast-size c =
     let (few, some, most, image) = length_seen n z (omega (arith, c.if-n-lt288230376151711744.false)) c.ranges.n.fits refl in
     omega arith
 
--- at Else-n-lt288230376151711744
 pub overflow_shr-size : goal.overflow_shr-size
 overflow_shr-size c =
     let n : ℕ = c.args.n in
@@ -48,7 +42,6 @@ overflow_shr-size c =
     let (few, some, most, image) = length_seen n z (omega (arith, c.if-n-lt288230376151711744.false)) c.ranges.n.fits refl in
     omega arith
 
--- at Else-n-lt288230376151711744
 pub overflow_cast-size-2 : goal.overflow_cast-size-2
 overflow_cast-size-2 c =
     let n : ℕ = c.args.n in
@@ -56,11 +49,9 @@ overflow_cast-size-2 c =
     let (few, some, most, image) = length_seen n z (omega (arith, c.if-n-lt288230376151711744.false)) c.ranges.n.fits refl in
     omega arith
 
--- at Then-size-gt32
 pub returns-then-size-gt32 : goal.returns-then-size-gt32
 returns-then-size-gt32 c = unsettled refl
 
--- at Else-size-gt32
 pub overflow_cast-digits : goal.overflow_cast-digits
 overflow_cast-digits c =
     let n : ℕ = c.args.n in
@@ -68,7 +59,6 @@ overflow_cast-digits c =
     let (few, some, most, image) = length_seen n z (omega (arith, c.if-n-lt288230376151711744.false)) c.ranges.n.fits refl in
     omega arith
 
--- at Else-size-gt32
 pub overflow_shl-digits : goal.overflow_shl-digits
 overflow_shl-digits c =
     let n : ℕ = c.args.n in
@@ -76,11 +66,9 @@ overflow_shl-digits c =
     let (few, some, most, image) = length_seen n z (omega (arith, c.if-n-lt288230376151711744.false)) c.ranges.n.fits refl in
     omega arith
 
--- at Then-digits-lt9223372036854775808
 pub returns-then-digits-lt9223372036854775808 : goal.returns-then-digits-lt9223372036854775808
 returns-then-digits-lt9223372036854775808 c = unsettled refl
 
--- at Else-digits-lt9223372036854775808
 pub overflow_sub-size-2 : goal.overflow_sub-size-2
 overflow_sub-size-2 c =
     let n : ℕ = c.args.n in
@@ -88,7 +76,6 @@ overflow_sub-size-2 c =
     let (few, some, most, image) = length_seen n z (omega (arith, c.if-n-lt288230376151711744.false)) c.ranges.n.fits refl in
     omega (arith, c.if-size-gt32.false)
 
--- at Else-digits-lt9223372036854775808
 pub overflow_cast-size-3 : goal.overflow_cast-size-3
 overflow_cast-size-3 c =
     let n : ℕ = c.args.n in
@@ -96,7 +83,6 @@ overflow_cast-size-3 c =
     let (few, some, most, image) = length_seen n z (omega (arith, c.if-n-lt288230376151711744.false)) c.ranges.n.fits refl in
     omega (arith, c.if-size-gt32.false)
 
--- at Else-digits-lt9223372036854775808
 pub overflow_shr-digits : goal.overflow_shr-digits
 overflow_shr-digits c =
     let n : ℕ = c.args.n in
@@ -104,7 +90,6 @@ overflow_shr-digits c =
     let (few, some, most, image) = length_seen n z (omega (arith, c.if-n-lt288230376151711744.false)) c.ranges.n.fits refl in
     omega (arith, c.if-size-gt32.false)
 
--- at Else-digits-lt9223372036854775808
 pub overflow_add-head-2 : goal.overflow_add-head-2
 overflow_add-head-2 c =
     let n : ℕ = c.args.n in
@@ -112,7 +97,6 @@ overflow_add-head-2 c =
     let (few, some, most, image) = length_seen n z (omega (arith, c.if-n-lt288230376151711744.false)) c.ranges.n.fits refl in
     omega (arith, c.if-size-gt32.false)
 
--- at Else-digits-lt9223372036854775808
 pub pack-requires : goal.pack-requires
 pack-requires c =
     let n : ℕ = c.args.n in
@@ -122,7 +106,6 @@ pack-requires c =
     let (w, e) = delta_seen n z l (n * 2 ^ (2 * z + 1) % 2 ^ 64) few refl some (omega (arith, c.if-size-gt32.false)) image refl (omega (arith, c.if-digits-lt9223372036854775808.false)) in
     (omega (arith, w.1), omega (arith, c.if-size-gt32.false))
 
--- at After-pack
 pub returns : goal.returns
 returns c =
     let n : ℕ = c.args.n in

@@ -4,27 +4,22 @@ use Rattle.glimpse_words.specs.Laws.Glimpsed.{rice_seen, zeros_few}
 use Rattle.glimpse_words.specs.Glimpsed.{unsettled, seen}
 use Rattle.glimpse_words.proofs.rice.Goals as goal
 
--- at Then-n-eq0
 pub returns-then-n-eq0 : goal.returns-then-n-eq0
 returns-then-n-eq0 c = unsettled refl
 
--- at Else-n-eq0
 pub overflow_add-bits : goal.overflow_add-bits
 overflow_add-bits c =
     let few = zeros_few c.args.n (omega (arith, c.if-n-eq0.false)) c.ranges.n.fits 0 (omega arith) (omega (arith, c.if-n-eq0.false)) in
     omega arith
 
--- at Else-n-eq0
 pub overflow_add-bits-2 : goal.overflow_add-bits-2
 overflow_add-bits-2 c =
     let few = zeros_few c.args.n (omega (arith, c.if-n-eq0.false)) c.ranges.n.fits 0 (omega arith) (omega (arith, c.if-n-eq0.false)) in
     omega (arith, c.requires)
 
--- at Then-bits-gt32
 pub returns-then-bits-gt32 : goal.returns-then-bits-gt32
 returns-then-bits-gt32 c = unsettled refl
 
--- at After-power-one
 pub overflow_mul-z : goal.overflow_mul-z
 overflow_mul-z c =
     let n : ℕ = c.args.n in
@@ -32,7 +27,6 @@ overflow_mul-z c =
     let (a, w, e) = rice_seen n z c.args.k c.power-one.result c.power-one.ensures.0 (omega (arith, c.if-n-eq0.false)) c.ranges.n.fits refl (omega (arith, c.if-bits-gt32.false)) in
     omega (arith, w.1)
 
--- at After-power-one
 pub overflow_sub-n : goal.overflow_sub-n
 overflow_sub-n c =
     let n : ℕ = c.args.n in
@@ -40,7 +34,6 @@ overflow_sub-n c =
     let (a, w, e) = rice_seen n z c.args.k c.power-one.result c.power-one.ensures.0 (omega (arith, c.if-n-eq0.false)) c.ranges.n.fits refl (omega (arith, c.if-bits-gt32.false)) in
     omega (arith, w.1)
 
--- at After-power-one
 pub overflow_add-z : goal.overflow_add-z
 overflow_add-z c =
     let n : ℕ = c.args.n in
@@ -48,7 +41,6 @@ overflow_add-z c =
     let (a, w, e) = rice_seen n z c.args.k c.power-one.result c.power-one.ensures.0 (omega (arith, c.if-n-eq0.false)) c.ranges.n.fits refl (omega (arith, c.if-bits-gt32.false)) in
     omega (arith, w.1)
 
--- at After-power-one
 pub overflow_add-z-2 : goal.overflow_add-z-2
 overflow_add-z-2 c =
     let n : ℕ = c.args.n in
@@ -56,7 +48,6 @@ overflow_add-z-2 c =
     let (a, w, e) = rice_seen n z c.args.k c.power-one.result c.power-one.ensures.0 (omega (arith, c.if-n-eq0.false)) c.ranges.n.fits refl (omega (arith, c.if-bits-gt32.false)) in
     omega (arith, w.1)
 
--- at After-power-one
 pub pack-requires : goal.pack-requires
 pack-requires c =
     let n : ℕ = c.args.n in
@@ -64,7 +55,6 @@ pack-requires c =
     let (a, w, e) = rice_seen n z c.args.k c.power-one.result c.power-one.ensures.0 (omega (arith, c.if-n-eq0.false)) c.ranges.n.fits refl (omega (arith, c.if-bits-gt32.false)) in
     (omega (arith, w.1), omega arith)
 
--- at After-pack
 pub returns : goal.returns
 returns c =
     let n : ℕ = c.args.n in

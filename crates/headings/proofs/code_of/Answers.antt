@@ -2,30 +2,23 @@ use Rattle.std.proofs.Common.{rules}
 use Rattle.headings.specs.Laws.Choices.{gamma_is, delta_is, rice_is, rice_over, variable_byte_is, interpolative_is, no_code}
 use Rattle.headings.proofs.code_of.Goals as goal
 
--- at Then-code-eq1
 pub returns-then-code-eq1 : goal.returns-then-code-eq1
 returns-then-code-eq1 c = search (rules, gamma_is)
 
--- at Then-code-eq2
 pub returns-then-code-eq2 : goal.returns-then-code-eq2
 returns-then-code-eq2 c = search (rules, delta_is)
 
--- at Then-parameter-gt-LARGEST_PARAMETER
 pub returns-then-parameter-gt-LARGEST_PARAMETER : goal.returns-then-parameter-gt-LARGEST_PARAMETER
 returns-then-parameter-gt-LARGEST_PARAMETER c = search (rules, rice_over)
 
--- at Else-parameter-gt-LARGEST_PARAMETER
 pub returns-then-code-eq3 : goal.returns-then-code-eq3
 returns-then-code-eq3 c = search (rules, rice_is)
 
--- at Then-code-eq4
 pub returns-then-code-eq4 : goal.returns-then-code-eq4
 returns-then-code-eq4 c = search (rules, variable_byte_is)
 
--- at Then-code-eq5
 pub returns-then-code-eq5 : goal.returns-then-code-eq5
 returns-then-code-eq5 c = search (rules, interpolative_is)
 
--- at Else-code-eq5
 pub returns : goal.returns
 returns c = search (rules, no_code)

@@ -1,7 +1,6 @@
 use Rattle.std.proofs.Common.{refl}
 use Rattle.judge_interpolative.proofs.equal.Goals as goal
 
--- at After-below
 pub returns : goal.returns
 returns c =
     let value = c.value_at.ensures in

@@ -6,24 +6,20 @@ use Rattle.read_middles.specs.Laws.Body.{others_refused}
 use Rattle.judge_interpolative.specs.Laws.Judged.{value_small, judged_whole}
 use Rattle.judge_interpolative.proofs.judge_others.Goals as goal
 
--- at Then-stop-next
 pub refusal-requires : goal.refusal-requires
 refusal-requires c = halted_why c.judge_part-r.ensures.told_part c.if-stop-next.true (omega arith)
 
--- at After-refusal_bit
 pub returns-then-stop-next : goal.returns-then-stop-next
 returns-then-stop-next c =
     let refusal = c.refusal in
     let bit = c.refusal_bit in λ from last. Judging.no (others_refused last c.judge_part-r.ensures.told_part c.if-stop-next.true refusal.result bit.result refusal.ensures bit.ensures)
 
--- at After-value_at
 pub overflow_cast-value : goal.overflow_cast-value
 overflow_cast-value c =
     let a = c.args in
     let own : Sums a.place a.sought (a.n - 1) (replicate 1 a.last) c.value_at.result (total (is_below a.sought) (a.n - 1) (replicate 1 a.last)) = record { value_is = c.value_at.ensures.0; less_is = refl } in
     omega (arith, value_small _ c.judge_part-r.ensures.told_part c.if-stop-next.false (omega arith) own refl (omega arith))
 
--- at After-new-3
 pub returns : goal.returns
 returns c =
     let a = c.args in

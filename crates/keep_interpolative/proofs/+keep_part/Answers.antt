@@ -5,14 +5,12 @@ use Rattle.read_middles.specs.Laws.Parts.{middle_halts, middle_alone, left_halts
 use Rattle.keep_interpolative.specs.Laws.Stored.{kept_none, stored_alone, stored_both}
 use Rattle.keep_interpolative.proofs.+keep_part.Goals as goal
 
--- at Then-n-eq0
 pub returns-then-n-eq0 : goal.returns-then-n-eq0
 returns-then-n-eq0 t c =
     let a = c.args in
     let w = lies a.s.now a.at a.stop c.requires.place in
     kept_none a.start a.n a.low a.hi a.list.now w c.if-n-eq0.true
 
--- at Then-stop-after
 pub returns-then-stop-after : goal.returns-then-stop-after
 returns-then-stop-after t c =
     let a = c.args in
@@ -20,7 +18,6 @@ returns-then-stop-after t c =
     let g = node a.n a.low a.hi (omega (arith, c.if-n-eq0.false)) (omega (arith, c.requires)) in
     middle_halts g w c.read_middle-m.ensures.told_middle (omega arith)
 
--- at Then-n-eq1
 pub returns-then-n-eq1 : goal.returns-then-n-eq1
 returns-then-n-eq1 t c =
     let a = c.args in
@@ -29,7 +26,6 @@ returns-then-n-eq1 t c =
     let m = c.read_middle-m in
     middle_alone g w m.ensures.told_middle (omega (arith, c.if-stop-after.false)) (omega arith) (omega arith) (stored_alone a.start ((a.n - 1) / 2) m.result.element a.list.now c.store.ensures (omega arith))
 
--- at Then-stop-next
 pub returns-then-stop-next : goal.returns-then-stop-next
 returns-then-stop-next t c =
     let a = c.args in
@@ -38,7 +34,6 @@ returns-then-stop-next t c =
     let m = c.read_middle-m in
     left_halts g w m.ensures.told_middle (omega (arith, c.if-stop-after.false)) c.keep_part-next.ensures (omega arith)
 
--- at After-slice_known-4-1
 pub returns : goal.returns
 returns t c =
     let a = c.args in

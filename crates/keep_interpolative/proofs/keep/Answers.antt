@@ -23,27 +23,22 @@ past : (c : After-bit-in-Took) → let a = c.args in let t = c.in-Took.w - 1 in 
 past c =
     past_last c.args.n (c.args.n - 1) (let some_here : c.args.n ≡ suc (c.args.n - 1) = omega (arith, c.if-n-eq0.false) in some_here) c.requires.0 (let took_here : (let a = c.args in Taken (word Word delta) a.s.now a.c c.in-Took.w c.in-Took.d) = was_taken c.read.ensures c.in-Took.is in took_here) refl refl (c.bit.ensures ∙ ap (λ (p : BitPos). p.0) c.at.ensures) (c.bit-in-Took.ensures ∙ ap (λ (p : BitPos). p.0) c.stop.ensures)
 
--- at Then-n-eq0
 pub returns-then-n-eq0 : goal.returns-then-n-eq0
 returns-then-n-eq0 c =
     Judging.whole [] (body_none c.args.n c.if-n-eq0.true c.requires.0) (sym c.if-n-eq0.true) (ap (λ (k : ℕ). drop k (map pos c.args.own.now)) (sym c.if-n-eq0.true))
 
--- at After-keep_others-arg-1
 pub keep_others-requires : goal.keep_others-requires
 keep_others-requires c =
     let w = (past (goal.at.keep_others-requires c).After-bit-in-Took).reached.within in
     record { place = (w.order, w.inside, w.small); room = (omega (arith, some (goal.at.keep_others-requires c).Else-n-eq0), c.requires.1, c.requires.2, (took (goal.at.keep_others-requires c).In-Took).takes.valid) }
 
--- at After-slice_known-in-Took-1
 pub returns-in-Took : goal.returns-in-Took
 returns-in-Took c = c.keep_others.ensures _ (past (goal.at.returns-in-Took c).After-bit-in-Took)
 
--- at After-at-in-Cut
 pub returns-in-Cut : goal.returns-in-Cut
 returns-in-Cut c =
     rw c.at-in-Cut.ensures (Judging.no (last_cut c.args.n (c.args.n - 1) (some (goal.at.returns-in-Cut c).Else-n-eq0) c.requires.0 c.read.ensures c.in-Cut.is))
 
--- at After-at-in-Bad
 pub returns-in-Bad : goal.returns-in-Bad
 returns-in-Bad c =
     rw c.at-in-Bad.ensures (Judging.no (last_bad c.args.n (c.args.n - 1) (some (goal.at.returns-in-Bad c).Else-n-eq0) c.requires.0 c.read.ensures c.in-Bad.is))

@@ -1,6 +1,6 @@
 -- The laws of a layout, and that each way to make one keeps them: a code of words brings one proof of its own, that none of its
 -- words is the beginning of another.
-use Rattle.std.specs.Prelude.{◌≡◌, refl, Bool, List, [], ◌∷◌, ◌++◌, ℕ, zero, suc, ◌+◌, length}
+use Rattle.std.specs.Prelude.{◌≡◌, refl, Bool, List, [], ◌∷◌, ◌++◌, ℕ, zero, suc, length}
 use Rattle.std.proofs.Common.{sym, ap, ap₂, ◌∙◌, subst, subst₂, inl, inr, append_assoc, append-nil, arith, length-append}
 use Rattle.layout.specs.Bits.{in_bits}
 use Rattle.layout.specs.Layout.{Layout, Takes, Answer, taken, refused, Says, PrefixFree, Stops, WordNo, cut, bad, word, FixedNo, short, fixed, known, BindNo, first, second, bind, OnlyNo, field, value, only, made, NonEmpty, head_tail, chain}

@@ -1,5 +1,5 @@
 -- Bits put over others, and windows of bits.
-use Rattle.std.specs.Prelude.{◌≡◌, Bool, List, [], ◌∷◌, ◌++◌, ℕ, zero, suc, ◌+◌, ◌-◌, ◌*◌, ◌/◌, ◌%◌, ◌^◌, ◌≤◌, ◌<◌, length, take, drop}
+use Rattle.std.specs.Prelude.{◌≡◌, Bool, List, [], ◌∷◌, ◌++◌, ℕ, zero, suc, ◌+◌, ◌*◌, ◌/◌, ◌%◌, ◌^◌, ◌≤◌, ◌<◌, length, take, drop}
 use Rattle.std.proofs.Common.{sym, ap, ap₂, ◌∙◌, append_assoc, zero-add, zero-mul, suc-add, add-zero, add_assoc, lt_of_lt_of_le, arith, pow_mono, shr-shr, length-append, length-take, length-drop, take-append-drop, take-take, take-add, drop-drop, take_at, drop_at, length-take-le}
 use Rattle.std.proofs.Math.Seq.{take-nil, drop-append-add}
 use Rattle.layout.specs.Bits.{in_bits, zeros, put}

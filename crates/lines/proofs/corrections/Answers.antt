@@ -2,11 +2,9 @@ use Rattle.std.proofs.Common.{◌≡◌, refl, ◌∙◌, pos, length, get_or, w
 use Rattle.lines.specs.Laws.Stands.{numbers_begun, numbers_next, numbers_whole}
 use Rattle.lines.proofs.corrections.Goals as goal
 
--- at After-slice_known-1
 pub loop-i-init : goal.loop-i-init
 loop-i-init c = (omega arith, refl, omega arith, numbers_begun _ _)
 
--- at After-slice_known-in-loop-i-1
 pub loop-i-preserved : goal.loop-i-preserved
 loop-i-preserved c =
     let l = c.loop-i in
@@ -22,7 +20,6 @@ loop-i-preserved c =
       numbers_next list (length list) l.i (pos 0) _ refl (omega arith) refl i.3 (rw value at here) (omega (arith, i.2, c.requires)),
     )
 
--- at After-loop-i
 pub returns : goal.returns
 returns c =
     let l = c.loop-i in

@@ -2,7 +2,6 @@ use Rattle.std.proofs.Common.{arith}
 use Rattle.lines.specs.Laws.Stands.{four_beside}
 use Rattle.lines.proofs.heading.Goals as goal
 
--- at After-slice_known-5-1
 pub returns : goal.returns
 returns c =
     let room = c.requires.0 in

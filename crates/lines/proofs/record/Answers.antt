@@ -4,7 +4,6 @@ use Rattle.headings.specs.Headings.{headed}
 use Rattle.lines.specs.Laws.Stands.{record_stands}
 use Rattle.lines.proofs.record.Goals as goal
 
--- at After-slice_known-3-1
 pub returns : goal.returns
 returns c =
     let h = c.heading-begun.ensures in

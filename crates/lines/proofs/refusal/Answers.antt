@@ -2,7 +2,6 @@ use Rattle.std.proofs.Common.{arith}
 use Rattle.lines.specs.Laws.Stands.{stands_text, refusal_stands}
 use Rattle.lines.proofs.refusal.Goals as goal
 
--- at After-slice_known-4-1
 pub returns : goal.returns
 returns c =
     let word = c.append-after_word.ensures in

@@ -3,27 +3,22 @@ use Rattle.headings.specs.Laws.Bodies.{rice_known}
 use Rattle.read_any_word.specs.Laws.Words.{glimpsed_by}
 use Rattle.read_any_word.proofs.look.Goals as goal
 
--- at In-Rice
 pub rice-requires : goal.rice-requires
 rice-requires c =
     rice_known c.args.code c.in-Rice.k c.in-Rice.is c.requires.3
 
--- at After-gamma
 pub returns-in-Gamma : goal.returns-in-Gamma
 returns-in-Gamma c =
     glimpsed_by c.args.code Gamma c.in-Gamma.is c.look-n.ensures c.gamma.ensures
 
--- at After-delta
 pub returns-in-Delta : goal.returns-in-Delta
 returns-in-Delta c =
     glimpsed_by c.args.code Delta c.in-Delta.is c.look-n.ensures c.delta.ensures
 
--- at After-rice
 pub returns-in-Rice : goal.returns-in-Rice
 returns-in-Rice c =
     glimpsed_by c.args.code (Rice c.in-Rice.k) c.in-Rice.is c.look-n.ensures c.rice.ensures
 
--- at After-variable_byte
 pub returns-in-VariableByte : goal.returns-in-VariableByte
 returns-in-VariableByte c =
     glimpsed_by c.args.code VariableByte c.in-VariableByte.is c.look-n.ensures c.variable_byte.ensures

@@ -3,23 +3,18 @@ use Rattle.headings.specs.Laws.Bodies.{rice_known}
 use Rattle.read_any_word.specs.Laws.Words.{told_by}
 use Rattle.read_any_word.proofs.word.Goals as goal
 
--- at In-Rice
 pub read-requires-in-Rice : goal.read-requires-in-Rice
 read-requires-in-Rice c =
     (c.requires.0, rice_known c.args.code c.in-Rice.k c.in-Rice.is c.requires.1)
 
--- at After-read
 pub returns-in-Gamma : goal.returns-in-Gamma
 returns-in-Gamma c = told_by c.args.code Gamma c.in-Gamma.is c.read.ensures
 
--- at After-read-in-Delta
 pub returns-in-Delta : goal.returns-in-Delta
 returns-in-Delta c = told_by c.args.code Delta c.in-Delta.is c.read-in-Delta.ensures
 
--- at After-read-in-Rice
 pub returns-in-Rice : goal.returns-in-Rice
 returns-in-Rice c = told_by c.args.code (Rice c.in-Rice.k) c.in-Rice.is c.read-in-Rice.ensures
 
--- at After-read-in-VariableByte
 pub returns-in-VariableByte : goal.returns-in-VariableByte
 returns-in-VariableByte c = told_by c.args.code VariableByte c.in-VariableByte.is c.read-in-VariableByte.ensures

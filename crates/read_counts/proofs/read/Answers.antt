@@ -3,18 +3,15 @@ use Rattle.format.specs.Limits.{longest_list}
 use Rattle.read_counts.specs.Laws.Counts.{word_some, count_many, count_above, count_is, count_cut, count_bad}
 use Rattle.read_counts.proofs.read.Goals as goal
 
--- at In-Took
 pub overflow_sub-n : goal.overflow_sub-n
 overflow_sub-n c = search (rules, word_some)
 
--- at Then-too_many
 pub returns-then-too_many : goal.returns-then-too_many
 returns-then-too_many c =
     let n = c.in-Took.w - 1 in
     let many : longest_list < n = omega arith in
     count_many c.read.ensures c.args.room c.in-Took.is n refl c.requires many
 
--- at Then-no_room
 pub returns-then-no_room : goal.returns-then-no_room
 returns-then-no_room c =
     let n = c.in-Took.w - 1 in
@@ -22,7 +19,6 @@ returns-then-no_room c =
     let above : c.args.room < n = omega arith in
     count_above c.read.ensures c.args.room c.in-Took.is n refl c.requires few above
 
--- at Else-no_room
 pub returns-else-no_room : goal.returns-else-no_room
 returns-else-no_room c =
     let n = c.in-Took.w - 1 in
@@ -30,10 +26,8 @@ returns-else-no_room c =
     let fits : n ≤ c.args.room = omega arith in
     count_is c.read.ensures c.args.room c.in-Took.is n refl few fits
 
--- at In-Cut
 pub returns-in-Cut : goal.returns-in-Cut
 returns-in-Cut c = search (rules, count_cut)
 
--- at In-Bad
 pub returns-in-Bad : goal.returns-in-Bad
 returns-in-Bad c = search (rules, count_bad)

@@ -7,17 +7,14 @@ use Rattle.reading.specs.Stored.{Put}
 use Rattle.reading.specs.Laws.Stored.{kept_more, stored_more}
 use Rattle.read_signed_lists.proofs.go_through.Goals as goal
 
--- at After-shared_slice_known-1
 pub loop-i-init : goal.loop-i-init
 loop-i-init c =
     (omega arith, pos 0, [], read_none c.requires.0, refl, refl, λ h. refl)
 
--- at In-loop-i
 pub next-requires : goal.next-requires
 next-requires c =
     (c.loop-i.invariant.3.reached.within, c.requires.1)
 
--- at After-list-1
 pub loop-i-preserved : goal.loop-i-preserved
 loop-i-preserved c =
     let l = c.loop-i in
@@ -39,13 +36,11 @@ loop-i-preserved c =
       λ e. p.stored (omega (arith, e, l.invariant.5)) ∙ ap (λ (y : List ℤ). set y l.i x) (l.invariant.6 e) ∙ stored_more (pos 0) vs lent x l.invariant.3.count (omega (arith, e)),
     )
 
--- at In-No
 pub returns-in-No : goal.returns-in-No
 returns-in-No c =
     let l = c.loop-i in
     no (read_no l.invariant.3 (omega arith) (correction_was_none c.next.ensures c.in-No.is l.invariant.1))
 
--- at After-loop-i
 pub returns : goal.returns
 returns c =
     let l = c.loop-i in

@@ -20,69 +20,57 @@ more : (c : In-After) → Passing c.args.s.now c.args.start c.in-After.e (c.loop
 more c =
     passing_more c.loop-h.invariant (let headed_here : Headed anyone c.args.s.now c.loop-h.c c.in-Body.h c.in-Body.n c.in-Body.d = was_body c.read.ensures c.in-Body.is in headed_here) (was_after c.pass.ensures c.in-After.is).1
 
--- at After-shared_slice_known-1
 pub loop-h-init : goal.loop-h-init
 loop-h-init c =
     passing_none c.args.s.now c.args.start c.requires
 
--- at At-loop-h
 pub read-requires : goal.read-requires
 read-requires c =
     c.loop-h.invariant.within
 
--- at In-Body
 pub pass-requires : goal.pass-requires
 pass-requires c =
     let k = headed c in
     (k.reached.within, record { parameter = k.legal.parameter; instants = k.legal.instants }, k.legal.count)
 
--- at In-After
 pub overflow_add-records : goal.overflow_add-records
 overflow_add-records c =
     let i = c.loop-h.invariant in
     let w = i.within in
     omega (arith, i.few, w.order, w.inside, w.small)
 
--- at In-After
 pub overflow_add-values : goal.overflow_add-values
 overflow_add-values c =
     let i = c.loop-h.invariant in
     let w = i.within in
     omega (arith, i.few, i.small, w.order, w.inside, w.small, (headed (goal.at.overflow_add-values c).In-Body).legal.count)
 
--- at In-After
 pub loop-h-smaller : goal.loop-h-smaller
 loop-h-smaller c =
     (more c).1
 
--- at In-After
 pub loop-h-preserved : goal.loop-h-preserved
 loop-h-preserved c =
     (more c).0
 
--- at In-No-pass
 pub returns-in-No-pass : goal.returns-in-No-pass
 returns-in-No-pass c =
     let refused = was_not_passed c.pass.ensures c.in-No-pass.is in
     stream_no c.loop-h.invariant (headed_no_end (headed (goal.at.returns-in-No-pass c).In-Body)) ((headed (goal.at.returns-in-No-pass c).In-Body).reached.no (refusal_number c.in-No-pass.m) c.in-No-pass.p refused)
 
--- at In-End
 pub unclean-requires : goal.unclean-requires
 unclean-requires c =
     (was_end c.read.ensures c.in-End.is).within
 
--- at After-at
 pub returns-then-unclean : goal.returns-then-unclean
 returns-then-unclean c =
     let ended = was_end c.read.ensures c.in-End.is in
     stream_unclean c.loop-h.invariant ended (fails_if c.unclean.ensures c.if-unclean.true) c.at.ensures
 
--- at Else-unclean
 pub returns-in-End : goal.returns-in-End
 returns-in-End c =
     stream_ends c.loop-h.invariant (was_end c.read.ensures c.in-End.is) (holds_if c.unclean.ensures c.if-unclean.false)
 
--- at In-No
 pub returns-in-No : goal.returns-in-No
 returns-in-No c =
     let k = was_no c.read.ensures c.in-No.is in

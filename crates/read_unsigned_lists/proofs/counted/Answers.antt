@@ -2,10 +2,8 @@ use Rattle.std.proofs.Common.{arith}
 use Rattle.read_unsigned_lists.specs.Laws.Below.{counts, counts_not}
 use Rattle.read_unsigned_lists.proofs.counted.Goals as goal
 
--- at Then-x-sought
 pub returns-then-x-sought : goal.returns-then-x-sought
 returns-then-x-sought c = let e = counts c.args.x c.args.sought (omega arith) in (omega arith, omega arith)
 
--- at Else-x-sought
 pub returns-else-x-sought : goal.returns-else-x-sought
 returns-else-x-sought c = let e = counts_not c.args.x c.args.sought (omega arith) in (omega arith, omega arith)

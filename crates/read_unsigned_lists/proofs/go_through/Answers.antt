@@ -8,17 +8,14 @@ use Rattle.read_values.specs.Laws.Told.{value_was, value_was_none}
 use Rattle.read_values.specs.Reading.{Reading}
 use Rattle.read_unsigned_lists.proofs.go_through.Goals as goal
 
--- at After-slice_known-1
 pub loop-i-init : goal.loop-i-init
 loop-i-init c =
     (omega arith, omega arith, [], read_none c.requires.0, refl, refl, refl, λ h. refl)
 
--- at In-loop-i
 pub next-requires : goal.next-requires
 next-requires c =
     (c.loop-i.invariant.3.reached.within, c.requires.1)
 
--- at After-slice_known-in-Is-1
 pub loop-i-preserved : goal.loop-i-preserved
 loop-i-preserved c =
     let l = c.loop-i in
@@ -39,13 +36,11 @@ loop-i-preserved c =
       λ h. p.stored (omega (arith, h, l.invariant.6)) ∙ ap (λ (y : List ℕ). set y l.i x) (l.invariant.7 h) ∙ stored_more 0 ns asked.list.now x many (omega (arith, h)),
     )
 
--- at In-No
 pub returns-in-No : goal.returns-in-No
 returns-in-No c =
     let l = c.loop-i in
     no (read_no l.invariant.3 (omega arith) (value_was_none c.next.ensures c.in-No.is))
 
--- at After-loop-i
 pub returns : goal.returns
 returns c =
     let l = c.loop-i in

@@ -7,11 +7,9 @@ use Rattle.write_ends.specs.Laws.End.{end_buffer_long, end_start_outside, end_fu
 use Rattle.write_ends.proofs.write_end.Goals as goal
 use Rattle.write_ends.proofs.write_end.Goals.{Else-bytes-at}
 
--- at Then-too_long
 pub returns-then-too_long : goal.returns-then-too_long
 returns-then-too_long c = end_buffer_long _ _ (omega (arith, c.if-too_long.true))
 
--- at Then-bytes-at
 pub returns-then-bytes-at : goal.returns-then-bytes-at
 returns-then-bytes-at c = end_start_outside _ _ (omega (arith, c.if-bytes-at.true, c.bit-at.ensures))
 
@@ -19,11 +17,9 @@ returns-then-bytes-at c = end_start_outside _ _ (omega (arith, c.if-bytes-at.tru
 place : (c : Else-bytes-at) → Start c.args.buf.now c.args.start.0
 place c = record { small = omega (arith, c.if-too_long.false); inside = omega (arith, c.if-bytes-at.false, c.bit-at.ensures) }
 
--- at Then-full
 pub returns-then-full : goal.returns-then-full
 returns-then-full c = end_full _ _ (place (goal.at.returns-then-full c).Else-bytes-at) (omega (arith, c.if-full.true, c.bit-at.ensures))
 
--- at After-slice_known-2-1
 pub returns : goal.returns
 returns c =
     let a = c.args in

@@ -3,24 +3,20 @@ use Rattle.write_interpolative.specs.Parts.{image}
 use Rattle.write_interpolative.specs.Laws.Parts.{image_none, halves_length}
 use Rattle.write_interpolative.proofs.+count_part.Goals as goal
 
--- at Then-n-eq0
 pub returns-then-n-eq0 : goal.returns-then-n-eq0
 returns-then-n-eq0 t c =
     let a = c.args in
     let e : image a.values.now a.start a.n a.low a.hi ≡ [] = ap (λ (n : ℕ). image a.values.now a.start n a.low a.hi) c.if-n-eq0.true ∙ image_none a.values.now a.start a.low a.hi in
     (sym (ap length e), omega arith)
 
--- at After-middle-s
 pub count_part-left-requires : goal.count_part-left-requires
 count_part-left-requires t c =
     (omega (arith, c.decreases), (c.middle-s.ensures.0.left, (omega arith, omega arith, omega arith, omega arith, omega arith)))
 
--- at After-count_part-left
 pub count_part-right-requires : goal.count_part-right-requires
 count_part-right-requires t c =
     (omega (arith, c.decreases), (c.middle-s.ensures.0.right, (omega arith, omega arith, omega arith, omega arith, omega arith)))
 
--- at After-count_part-right
 pub returns : goal.returns
 returns t c =
     let a = c.args in

@@ -5,14 +5,12 @@ use Rattle.write_interpolative.specs.Parts.{image}
 use Rattle.write_interpolative.specs.Laws.Parts.{image_none, halves_length, halves_drawn}
 use Rattle.write_interpolative.proofs.+write_part.Goals as goal
 
--- at Then-n-eq0
 pub returns-then-n-eq0 : goal.returns-then-n-eq0
 returns-then-n-eq0 t c =
     let a = c.args in
     let e : image a.values.now a.start a.n a.low a.hi ≡ [] = ap (λ (n : ℕ). image a.values.now a.start n a.low a.hi) c.if-n-eq0.true ∙ image_none a.values.now a.start a.low a.hi in
     drawn_none a.buf.now a.pen e c.requires.space.within
 
--- at After-field-arg-1
 pub field-after_middle-requires : goal.field-after_middle-requires
 field-after_middle-requires t c =
     let a = c.args in
@@ -22,7 +20,6 @@ field-after_middle-requires t c =
     (r.within, omega (arith, r.fits, e, w.0), w.1, rw w.0 c.middle-s.ensures.0.held)
 
 -- here and below `search h` finds whichever half is meant: that they come in this order is shown where the bits are, at the return
--- at After-write_part-arg-1
 pub write_part-after_left-requires : goal.write_part-after_left-requires
 write_part-after_left-requires t c =
     let a = c.args in
@@ -38,7 +35,6 @@ write_part-after_left-requires t c =
       ),
     )
 
--- at After-write_part-arg-2-1
 pub write_part-requires : goal.write_part-requires
 write_part-requires t c =
     let a = c.args in
@@ -54,7 +50,6 @@ write_part-requires t c =
       ),
     )
 
--- at After-slice_known-4-1
 pub returns : goal.returns
 returns t c =
     let a = c.args in

@@ -2,13 +2,11 @@ use Rattle.std.proofs.Common.{sym, ap, ◌-◌, length, arith}
 use Rattle.write_interpolative.specs.Laws.Body.{body_none, body_length}
 use Rattle.write_interpolative.proofs.count.Goals as goal
 
--- at Then-n-eq0
 pub returns-then-n-eq0 : goal.returns-then-n-eq0
 returns-then-n-eq0 c =
     let a = c.args in
     (sym (ap length (body_none a.values.now c.if-n-eq0.true)), omega arith)
 
--- at After-count_part
 pub returns : goal.returns
 returns c =
     let a = c.args in

@@ -2,7 +2,6 @@ use Rattle.std.proofs.Common.{refl, get_or}
 use Rattle.write_interpolative.specs.Laws.Body.{body_some}
 use Rattle.write_interpolative.proofs.last.Goals as goal
 
--- at After-shared_slice_known-1
 pub returns : goal.returns
 returns c =
     let a = c.args in

@@ -2,7 +2,6 @@ use Rattle.std.proofs.Common.{arith}
 use Rattle.write_interpolative.specs.Laws.Parts.{halves}
 use Rattle.write_interpolative.proofs.middle.Goals as goal
 
--- at After-number_at
 pub returns : goal.returns
 returns c =
     let a = c.args in

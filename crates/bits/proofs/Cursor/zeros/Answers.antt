@@ -7,7 +7,6 @@ use Rattle.bits.specs.Laws.Runs.{zeros_more, zeros_stop, zeros_end}
 use Rattle.bits.proofs.Cursor.zeros.Goals as goal
 use Rattle.bits.proofs.Cursor.zeros.Goals.{After-number-n}
 
--- at Then-n-ne0
 pub before_one-requires : goal.before_one-requires
 before_one-requires c = (search rules, rw c.number-n.ensures (val_take_lt c.least-m.result c.least-m.result _ (le_refl _)), search rules)
 
@@ -17,7 +16,6 @@ seen : (c : After-number-n)
 seen c =
     c.number-n.ensures ∙ ap val (sym (left_part c.args.s.now c.args.self c.requires c.loop-z.z c.least-m.result (omega arith)))
 
--- at After-before_one
 pub returns-then-n-ne0 : goal.returns-then-n-ne0
 returns-then-n-ne0 c =
     let k = length_left c.args.s.now c.args.self c.requires in
@@ -27,7 +25,6 @@ returns-then-n-ne0 c =
       omega arith,
     )
 
--- at Else-n-ne0
 pub loop-z-preserved : goal.loop-z-preserved
 loop-z-preserved c =
     let k = length_left c.args.s.now c.args.self c.requires in (
@@ -36,7 +33,6 @@ loop-z-preserved c =
           c.loop-z.invariant.1 (omega (arith, k)) (seen (goal.at.loop-z-preserved c).After-number-n) c.if-n-ne0.false,
     )
 
--- at After-loop-z
 pub returns : goal.returns
 returns c =
     (zeros_end (left c.args.self c.args.s.now) c.loop-z.z c.loop-z.invariant.1 (omega (arith, length_left c.args.s.now c.args.self c.requires)), omega arith)

@@ -6,12 +6,10 @@ use Rattle.layout.proofs.Laws.Windows as laws
 use Rattle.bits.proofs.number.by_bytes.Goals as goal
 use Rattle.bits.proofs.number.by_bytes.Goals.{After-wide}
 
--- at After-shared_slice_known-1
 pub loop-done-init : goal.loop-done-init
 unfolding val
 loop-done-init c = (search rules, refl)
 
--- at After-power
 pub overflow_mul-n : goal.overflow_mul-n
 overflow_mul-n c =
     let a = c.args in
@@ -34,17 +32,14 @@ step c =
     ap₂ (λ (x y : ℕ). x + y) (ap₂ (λ (x y : ℕ). x * y) c.loop-done.invariant.1 c.power.ensures.0) (c.wide.ensures ∙ c.within_byte.ensures)
     ∙ sym (laws.val_step (bits_of a.s.now) a.at done w (rw length_bits_of (omega arith)))
 
--- at After-wide
 pub overflow_add-n : goal.overflow_add-n
 overflow_add-n c =
     let k : c.loop-done.done + c.least-w.result ≤ 32 = omega arith in
     record { fits = rw (step c) (laws.val_take_lt 32 _ _ k) }
 
--- at After-wide
 pub loop-done-preserved : goal.loop-done-preserved
 loop-done-preserved c = (omega arith, step c)
 
--- at After-loop-done
 pub returns : goal.returns
 returns c =
     let e : c.loop-done.done ≡ c.args.width = omega arith in

@@ -1,7 +1,6 @@
 use Rattle.bits.specs.Laws.Bytes.{looked}
 use Rattle.bits.proofs.number.look.Goals as goal
 
--- at After-window
 pub returns : goal.returns
 returns c =
     looked c.args.s.now c.args.at c.least-first.result c.window.result c.least-first.ensures c.requires.0 c.requires.1 c.window.ensures

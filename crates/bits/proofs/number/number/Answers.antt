@@ -6,7 +6,6 @@ use Rattle.bits.specs.Laws.Bytes.{from_window}
 use Rattle.bits.proofs.number.number.Goals as goal
 use Rattle.bits.proofs.number.number.Goals.{After-window}
 
--- at Then-width-eq0
 pub returns-then-width-eq0 : goal.returns-then-width-eq0
 unfolding val
 returns-then-width-eq0 c =
@@ -26,10 +25,8 @@ value c =
     ∙ from_window a.s.now q (a.at % 8) a.width (omega arith) (omega arith)
     ∙ ap (λ (n : ℕ). val (take a.width (drop n (bits_of a.s.now)))) e
 
--- at After-window
 pub overflow_cast-result : goal.overflow_cast-result
 overflow_cast-result c = record { fits = rw (value c) (val_take_lt 32 _ _ c.requires.1) }
 
--- at After-window
 pub returns : goal.returns
 returns c = value c

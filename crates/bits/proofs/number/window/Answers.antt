@@ -3,7 +3,6 @@ use Rattle.layout.proofs.Laws.Bits.{val}
 use Rattle.bits.specs.Laws.Bytes.{byte_joined}
 use Rattle.bits.proofs.number.window.Goals as goal
 
--- at After-join
 pub returns : goal.returns
 unfolding val
 returns c =

@@ -5,7 +5,6 @@ use Rattle.layout.proofs.Laws.Bits as laws
 use Rattle.bits.specs.Laws.Bytes.{chunk_read}
 use Rattle.bits.proofs.number.within_byte.Goals as goal
 
--- at After-part
 pub returns : goal.returns
 returns c =
     let a = c.args in

@@ -10,13 +10,11 @@ use Rattle.read_bodies.specs.Laws.Bodies.{headed_for}
 use Rattle.find_in_records.specs.Laws.Finding.{finds_no, found_correction, beyond_correction}
 use Rattle.find_in_records.proofs.signed.look_up.Goals as goal
 
--- at In-Body
 pub judge-requires : goal.judge-requires
 judge-requires c =
     let k = was_body c.read.ensures c.in-Body.is in
     (k.reached.within, headed_for k, k.legal.count)
 
--- at Then-within
 pub returns-then-within : goal.returns-then-within
 returns-then-within c =
     let k = was_body c.read.ensures c.in-Body.is in
@@ -24,26 +22,22 @@ returns-then-within c =
     let fits : SFits w32 c.in-Whole.v = search rules in
     rw (to_z-of_z fits) (found_correction k w.1 w.2 (omega (arith, c.if-within.true)))
 
--- at After-new
 pub returns-else-within : goal.returns-else-within
 returns-else-within c =
     let k = was_body c.read.ensures c.in-Body.is in
     let w = were_whole c.judge.ensures c.in-Whole.is in
     beyond_correction k w.1 (omega (arith, c.if-within.false)) c.new.ensures
 
--- at In-No-judge
 pub returns-in-No-judge : goal.returns-in-No-judge
 returns-in-No-judge c =
     let k = was_body c.read.ensures c.in-Body.is in
     finds_no c.requires (k.reached.no (refusal_number c.in-No-judge.m) c.in-No-judge.p (were_no c.judge.ensures c.in-No-judge.is))
 
--- at After-at
 pub returns-in-End : goal.returns-in-End
 returns-in-End c =
     let w = c.requires in
     finds_no w (no_at (end_no (asked_for Corrections) (was_end c.read.ensures c.in-End.is) w) c.at.ensures)
 
--- at In-No
 pub returns-in-No : goal.returns-in-No
 returns-in-No c =
     finds_no c.requires (was_no c.read.ensures c.in-No.is).whole

@@ -4,22 +4,17 @@ use Rattle.headings.specs.Bodies.{words, halves}
 use Rattle.headings.specs.declared.bodies.Words.TheVariants.{Gamma, Delta, VariableByte}
 use Rattle.headings.proofs.bodies.body_of.Goals as goal
 
--- at In-Gamma
 pub returns-in-Gamma : goal.returns-in-Gamma
 returns-in-Gamma c = words {w = Gamma} tt c.in-Gamma.is
 
--- at In-Delta
 pub returns-in-Delta : goal.returns-in-Delta
 returns-in-Delta c = words {w = Delta} tt c.in-Delta.is
 
--- at In-Rice
 pub returns-in-Rice : goal.returns-in-Rice
 returns-in-Rice c = search (rules, rice_body)
 
--- at In-VariableByte
 pub returns-in-VariableByte : goal.returns-in-VariableByte
 returns-in-VariableByte c = words {w = VariableByte} tt c.in-VariableByte.is
 
--- at In-Interpolative
 pub returns-in-Interpolative : goal.returns-in-Interpolative
 returns-in-Interpolative c = halves c.in-Interpolative.is

@@ -2,11 +2,9 @@ use Rattle.std.proofs.Common.{◌≡◌, refl, sym, ap, ◌∙◌, List, ℕ, �
 use Rattle.std.proofs.Math.Seq.{paste, paste-zero, paste-suc}
 use Rattle.lines.proofs.numbers.append.Goals as goal
 
--- at Start
 pub loop-i-init : goal.loop-i-init
 loop-i-init c = let a = c.args in (omega arith, refl, paste-zero a.out.now a.at a.text.now)
 
--- at After-shared_slice_known-1
 pub loop-i-preserved : goal.loop-i-preserved
 loop-i-preserved c =
     let l = c.loop-i in
@@ -18,7 +16,6 @@ loop-i-preserved c =
           ∙ ap (paste a.out.now a.at a.text.now) (sym (add-one l.i)),
     )
 
--- at After-loop-i
 pub returns : goal.returns
 returns c =
     let l = c.loop-i in

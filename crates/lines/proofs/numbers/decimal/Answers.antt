@@ -12,15 +12,12 @@ short c = let l = c.loop-rest in ends_short l.rest l.first (omega arith) l.invar
 gathered : (c : After-append) → let l = c.loop-rest in length (set l.text l.first c.last_digit-2.result) ≡ 10
 gathered c = simp length-set c.loop-rest.invariant.1
 
--- at After-slice_known-1
 pub loop-rest-init : goal.loop-rest-init
 loop-rest-init c = (omega arith, refl, omega (arith, c.ranges.n.fits), λ t d. subst (Decimal _) (sym (append-nil t)) d)
 
--- at After-last_digit
 pub overflow_sub-first : goal.overflow_sub-first
 overflow_sub-first c = (short c).0
 
--- at After-last_digit
 pub loop-rest-preserved : goal.loop-rest-preserved
 loop-rest-preserved c =
     let l = c.loop-rest in
@@ -32,7 +29,6 @@ loop-rest-preserved c =
       rw c.last_digit.ensures (ends_next l.text l.first (omega (arith, l.invariant.0, l.invariant.1)) l.invariant.3 (omega arith) s.0),
     )
 
--- at After-slice_known-2-1
 pub returns : goal.returns
 returns c =
     let l = c.loop-rest in

@@ -35,33 +35,27 @@ module _ (c : Then-v-lt0) where
   negation : Negated c.args.v
   negation = negated c.args.v (rw narrow at c.if-v-lt0.true) fits
 
--- at Then-v-lt0
 pub overflow_cast-result : goal.overflow_cast-result
 overflow_cast-result c = rw (narrow c) (sfits_widen tt (fits c))
 
--- at Then-v-lt0
 pub overflow_sub-result : goal.overflow_sub-result
 overflow_sub-result c = rw (narrow c, widened c) (negation c).small
 
--- at Then-v-lt0
 pub overflow_cast-result-then-v-lt0 : goal.overflow_cast-result-then-v-lt0
 overflow_cast-result-then-v-lt0 c =
     let n = negation c in
     rw (narrow c, widened c, to_z-of_z n.small) (n.positive, subst (Fits w32) (sym n.size) (Fits-nat_abs tt (fits c)))
 
--- at Then-v-lt0
 pub returns-then-v-lt0 : goal.returns-then-v-lt0
 returns-then-v-lt0 c =
     let n = negation c in
     rw (narrow c, widened c, to_z-of_z n.small) n.size
 
--- at Else-v-lt0
 pub overflow_cast-result-2 : goal.overflow_cast-result-2
 overflow_cast-result-2 c =
     let v = c.args.v in
     let f = c.ranges.v in
     rw (to_z-of_z f) (not_negative v (rw (to_z-of_z f) at c.if-v-lt0.false), Fits-nat_abs tt f)
 
--- at Else-v-lt0
 pub returns : goal.returns
 returns c = ap nat_abs (to_z-of_z c.ranges.v)

@@ -2,7 +2,6 @@ use Rattle.std.proofs.Common.{arith}
 use Rattle.lines.specs.Laws.Stands.{number_stands}
 use Rattle.lines.proofs.numbers.unsigned.Goals as goal
 
--- at After-separator
 pub returns : goal.returns
 returns c =
     let e = c.decimal-end.ensures in

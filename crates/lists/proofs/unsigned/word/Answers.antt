@@ -11,18 +11,14 @@ instant c = rw c.if-instants.true at c.requires
 plain : (c : Else-instants) → Fits Plain (pos c.args.before) (pos c.args.v)
 plain c = rw c.if-instants.false at c.requires
 
--- at Then-instants
 pub overflow_sub-result : goal.overflow_sub-result
 overflow_sub-result c = omega (arith, (instant c).1)
 
--- at Then-instants
 pub overflow_add-result : goal.overflow_add-result
 overflow_add-result c = record { fits = omega (arith, (instant c).0) }
 
--- at Then-instants
 pub returns-then-instants : goal.returns-then-instants
 returns-then-instants c = rw c.if-instants.true (refl, fits_word Instants (pos c.args.before) (pos c.args.v) (instant c))
 
--- at Else-instants
 pub returns-else-instants : goal.returns-else-instants
 returns-else-instants c = rw c.if-instants.false (refl, (plain c).0)

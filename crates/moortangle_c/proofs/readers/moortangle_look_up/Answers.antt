@@ -5,7 +5,6 @@ use Rattle.moortangle_c.specs.Laws.Tells.{tells_between}
 use Rattle.format.specs.Reading.{LooksUp}
 use Rattle.moortangle_c.proofs.readers.moortangle_look_up.Goals as goal
 
--- at After-value_of
 pub returns : goal.returns
 returns c =
     let a = c.args in

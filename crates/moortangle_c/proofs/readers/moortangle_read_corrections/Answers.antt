@@ -1,11 +1,9 @@
 use Rattle.moortangle_c.specs.Laws.Tells.{few_values, reads_tell}
 use Rattle.moortangle_c.proofs.readers.moortangle_read_corrections.Goals as goal
 
--- at After-list-1
 pub record_of-requires : goal.record_of-requires
 record_of-requires c = few_values c.read_corrections.ensures
 
--- at After-record_of
 pub returns : goal.returns
 returns c =
     reads_tell c.at.ensures c.at-2.ensures c.read_corrections.ensures c.record_of.ensures

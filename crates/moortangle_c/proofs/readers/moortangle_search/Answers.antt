@@ -4,7 +4,6 @@ use Rattle.moortangle_c.specs.Laws.Tells.{tells_between}
 use Rattle.format.specs.Reading.{Searches}
 use Rattle.moortangle_c.proofs.readers.moortangle_search.Goals as goal
 
--- at After-place_of
 pub returns : goal.returns
 returns c =
     let a = c.args in

@@ -6,7 +6,6 @@ use Rattle.format.specs.Writing.{Writes}
 use Rattle.moortangle_c.specs.Laws.Tells.{tells_at}
 use Rattle.moortangle_c.proofs.writers.moortangle_write.Goals as goal
 
--- at After-written_of
 pub returns : goal.returns
 returns c =
     let a = c.args in

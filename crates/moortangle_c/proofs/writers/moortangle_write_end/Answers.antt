@@ -5,7 +5,6 @@ use Rattle.format.specs.Writing.{WritesEnd}
 use Rattle.moortangle_c.specs.Laws.Tells.{tells_at}
 use Rattle.moortangle_c.proofs.writers.moortangle_write_end.Goals as goal
 
--- at After-written_of
 pub returns : goal.returns
 returns c =
     let lent = c.args.buffer.now in

@@ -1,14 +1,12 @@
-use Rattle.std.proofs.Common.{refl, ap, ◌∙◌, ℕ, ◌%◌, pow_mono, arith, rules}
+use Rattle.std.proofs.Common.{refl, ap, ◌∙◌, ℕ, ◌%◌, pow_mono, arith}
 use Rattle.layout.specs.Bits.{in_bits, bits_of, put}
 use Rattle.pen.specs.Pen.{first_of, inked}
 use Rattle.pen.proofs.Pen.close.Goals as goal
 
--- at After-struct_known-1
 pub overflow_cast-self : goal.overflow_cast-self
 overflow_cast-self c =
     omega (arith, c.requires.held, pow_mono {i = c.args.self.at.0 % 32} {j = 32} (omega arith))
 
--- at After-slice_known-2-1
 pub returns : goal.returns
 unfolding inked
 returns c =

@@ -1,4 +1,4 @@
-use Rattle.std.proofs.Common.{◌≡◌, sym, ap, ◌∙◌, subst, ℕ, ◌+◌, ◌-◌, ◌*◌, ◌/◌, ◌%◌, ◌^◌, ◌<◌, shr_lt, arith, rules}
+use Rattle.std.proofs.Common.{◌≡◌, sym, ap, ◌∙◌, subst, ℕ, ◌+◌, ◌-◌, ◌*◌, ◌/◌, ◌%◌, ◌^◌, ◌<◌, shr_lt, arith}
 use Rattle.layout.specs.Bits.{in_bits, bits_of, put}
 use Rattle.pen.specs.Pen.{Drawn, first_of}
 use Rattle.pen.specs.Laws.Pen.{shifted, all_lt, field_gathered, field_stored}
@@ -11,20 +11,17 @@ whole c =
     let a = c.args in
     ap (λ (n : ℕ). n + a.value) (shifted a.self a.width a.value c.requires.0.held c.requires.2 c.requires.3).0
 
--- at After-struct_known-1
 pub overflow_add-all : goal.overflow_add-all
 overflow_add-all c =
     let a = c.args in
     let e = shifted a.self a.width a.value c.requires.0.held c.requires.2 c.requires.3 in
     omega (arith, e.0, e.1)
 
--- at Then-few
 pub returns-then-few : goal.returns-then-few
 returns-then-few c =
     let a = c.args in
     field_gathered a.buf.now a.self a.width a.value _ c.requires.0 c.requires.1 c.requires.3 (whole (goal.at.returns-then-few c).Start) c.after-next.result c.after-next.ensures (omega (arith, c.if-few.true, c.bit-at.ensures))
 
--- at After-new
 pub overflow_cast-all-2 : goal.overflow_cast-all-2
 overflow_cast-all-2 c =
     let a = c.args in
@@ -33,7 +30,6 @@ overflow_cast-all-2 c =
     let e : a.self.at.0 % 32 + a.width ≡ 32 + r = omega (arith, b.ensures, c.if-few.false) in
     record { fits = shr_lt 32 r (subst (λ (n : ℕ). a.self.gathered * 2 ^ a.width % 2 ^ 64 + a.value < 2 ^ n) e (all_lt a.buf.now a.self a.width a.value _ c.requires.0 c.requires.1 c.requires.3 (whole (goal.at.overflow_cast-all-2 c).Start))) }
 
--- at After-power
 pub returns : goal.returns
 returns c =
     let a = c.args in

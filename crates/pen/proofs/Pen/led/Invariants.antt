@@ -1,8 +1,6 @@
-use Rattle.std.proofs.Common.{◌≡◌, refl, ◌∙◌, ◌++◌, ◌+◌, ◌≤◌, lt_of_lt_of_le, pow_pos, pow_mono, length, arith, rules}
+use Rattle.std.proofs.Common.{◌≡◌, ◌++◌, ◌≤◌, length}
 use Rattle.layout.specs.Bits.{in_bits, zeros}
-use Rattle.layout.proofs.Laws.Windows.{zeros_lead}
 use Rattle.pen.specs.Pen.{Begun}
-use Rattle.pen.specs.Laws.Pen.{drawn_as, drawn_both, begun_none, begun_told, begun_more, length_led, fewer_zeros}
 use Rattle.pen.proofs.Pen.led.Given as goal
 
 abbrev pub invariant-loop-left : goal.invariant-loop-left

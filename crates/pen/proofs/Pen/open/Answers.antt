@@ -5,7 +5,6 @@ use Rattle.pen.specs.Pen.{first_of}
 use Rattle.pen.specs.Laws.Pen.{opened}
 use Rattle.pen.proofs.Pen.open.Goals as goal
 
--- at After-number
 pub returns : goal.returns
 returns c =
     let a = c.args in

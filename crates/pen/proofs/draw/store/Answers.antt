@@ -5,7 +5,6 @@ use Rattle.layout.proofs.Laws.Windows.{put_nil}
 use Rattle.pen.specs.Laws.Bytes.{byte_more}
 use Rattle.pen.proofs.draw.store.Goals as goal
 
--- at After-slice_known-5-1
 pub returns : goal.returns
 unfolding in_bits
 returns c =

@@ -1,15 +1,13 @@
-use Rattle.std.proofs.Common.{Bool, List, div-one, ◌≡◌, ◌∙◌, sym, ap, refl, ℕ, ◌+◌, ◌-◌, ◌/◌, ◌%◌, ◌^◌, ◌≤◌, length, arith, rules}
+use Rattle.std.proofs.Common.{Bool, List, div-one, ◌≡◌, ◌∙◌, sym, ap, refl, ℕ, ◌+◌, ◌-◌, ◌/◌, ◌%◌, ◌^◌, arith, rules}
 use Rattle.layout.specs.Bits.{bits_of, in_bits, put}
 use Rattle.layout.proofs.Laws.Bits.{length_bits_of}
 use Rattle.layout.proofs.Laws.Windows as laws
 use Rattle.pen.proofs.write.field.Goals as goal
 
--- at After-slice_known-1
 pub loop-done-init : goal.loop-done-init
 unfolding in_bits
 loop-done-init c = (search rules, refl, sym (laws.put_nil _ _))
 
--- at After-slice_known-in-loop-done-1
 pub loop-done-preserved : goal.loop-done-preserved
 loop-done-preserved c =
     let a = c.args in
@@ -28,7 +26,6 @@ loop-done-preserved c =
           ∙ ap (λ (m : ℕ). put (bits_of a.buf.now) a.at (in_bits (done + w) (a.value / 2 ^ m))) (sym f),
     )
 
--- at After-loop-done
 pub returns : goal.returns
 returns c =
     let l = c.loop-done in

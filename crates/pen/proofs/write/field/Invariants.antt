@@ -1,7 +1,5 @@
-use Rattle.std.proofs.Common.{Bool, List, div-one, ◌≡◌, ◌∙◌, sym, ap, refl, ℕ, ◌+◌, ◌-◌, ◌/◌, ◌%◌, ◌^◌, ◌≤◌, length, arith, rules}
+use Rattle.std.proofs.Common.{◌≡◌, ◌-◌, ◌/◌, ◌^◌, ◌≤◌, length}
 use Rattle.layout.specs.Bits.{bits_of, in_bits, put}
-use Rattle.layout.proofs.Laws.Bits.{length_bits_of}
-use Rattle.layout.proofs.Laws.Windows as laws
 use Rattle.pen.proofs.write.field.Given as goal
 
 abbrev pub invariant-loop-done : goal.invariant-loop-done

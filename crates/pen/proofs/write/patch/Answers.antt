@@ -16,26 +16,20 @@ whole : (c : After-power-high)
     < 256
 whole c = rw (value c) (patched_byte _ _ _ _ (omega arith) (omega arith) c.requires.1)
 
--- at After-power-high
 pub overflow_mul-result : goal.overflow_mul-result
 overflow_mul-result c = omega (arith, whole c)
 
--- at After-power-high
 pub overflow_mul-result-2 : goal.overflow_mul-result-2
 overflow_mul-result-2 c = omega (arith, whole c)
 
--- at After-power-high
 pub overflow_add-result : goal.overflow_add-result
 overflow_add-result c = omega (arith, whole c)
 
--- at After-power-high
 pub overflow_add-result-2 : goal.overflow_add-result-2
 overflow_add-result-2 c = omega (arith, whole c)
 
--- at After-power-high
 pub overflow_cast-result-2 : goal.overflow_cast-result-2
 overflow_cast-result-2 c = omega (arith, whole c)
 
--- at After-power-high
 pub returns : goal.returns
 returns c = value c

@@ -3,7 +3,6 @@ use Rattle.layout.specs.Bits.{bits_of, in_bits, put}
 use Rattle.pen.specs.Laws.Bytes.{chunk_write}
 use Rattle.pen.proofs.write.within_byte.Goals as goal
 
--- at After-patch
 pub returns : goal.returns
 returns c =
     let a = c.args in

@@ -2,21 +2,17 @@ use Rattle.reading.specs.Laws.Places.{placed_within}
 use Rattle.read_entries.specs.Laws.Readers.{was_kind, reads_outside, reads_stranger, reads_placed}
 use Rattle.read_entries.proofs.record.read.Goals as goal
 
--- at After-read-arg-1
 pub read-requires : goal.read-requires
 read-requires c =
     (placed_within c.span.ensures c.in-At.is, (was_kind c.kind_of.ensures c.in-Is.is).family)
 
--- at After-slice_known-in-Is-1
 pub returns-in-Is : goal.returns-in-Is
 returns-in-Is c =
     reads_placed c.span.ensures c.in-At.is (was_kind c.kind_of.ensures c.in-Is.is) c.read.ensures
 
--- at After-new
 pub returns-in-Unknown : goal.returns-in-Unknown
 returns-in-Unknown c =
     reads_stranger c.span.ensures c.in-At.is c.kind_of.ensures c.in-Unknown.is c.new.ensures
 
--- at After-new-in-Outside
 pub returns-in-Outside : goal.returns-in-Outside
 returns-in-Outside c = reads_outside c.span.ensures c.in-Outside.is c.new-in-Outside.ensures

@@ -2,12 +2,10 @@ use Rattle.std.proofs.Common.{◌∙◌, arith}
 use Rattle.read_entries.specs.Laws.Readers.{checks_long, checks_all}
 use Rattle.read_entries.proofs.stream.check.Goals as goal
 
--- at After-new
 pub returns-then-s-gt-LONGEST_BUFFER : goal.returns-then-s-gt-LONGEST_BUFFER
 returns-then-s-gt-LONGEST_BUFFER c =
     checks_long c.if-s-gt-LONGEST_BUFFER.true c.new.ensures
 
--- at After-check
 pub returns : goal.returns
 returns c =
     let k = c.new-all.ensures in

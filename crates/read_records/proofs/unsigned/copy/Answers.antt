@@ -2,11 +2,9 @@ use Rattle.std.proofs.Common.{◌≡◌, refl, ap, ◌∙◌, List, ◌++◌, �
 use Rattle.read_records.specs.Laws.Copied.{copied_more}
 use Rattle.read_records.proofs.unsigned.copy.Goals as goal
 
--- at Start
 pub loop-i-init : goal.loop-i-init
 loop-i-init c = (omega arith, refl, refl)
 
--- at After-shared_slice_known-1
 pub loop-i-preserved : goal.loop-i-preserved
 loop-i-preserved c =
     let l = c.loop-i in
@@ -14,7 +12,6 @@ loop-i-preserved c =
     let x = get_or a.own.now l.i 0 in
     (omega arith, length-set l.list l.i x ∙ l.invariant.1, ap (λ (y : List ℕ). set y l.i x) l.invariant.2 ∙ copied_more 0 a.own.now a.list.now l.i (omega arith) (omega arith))
 
--- at After-loop-i
 pub returns : goal.returns
 returns c =
     let l = c.loop-i in

@@ -6,24 +6,20 @@ use Rattle.read_headings.specs.Laws.Told.{was_body, was_end, was_no}
 use Rattle.read_records.specs.Laws.Reading.{read_end, read_no, read_listed, headed_room, refused_room}
 use Rattle.read_records.proofs.unsigned.read.Goals as goal
 
--- at After-listed-arg-1
 pub listed-requires : goal.listed-requires
 listed-requires c =
     let k = was_body c.read.ensures c.in-Body.is in
     (k.reached.within, for_family (headed_for k) c.requires.1, k.legal.count, k.legal.room)
 
--- at After-slice_known-in-Body-1
 pub returns-in-Body : goal.returns-in-Body
 returns-in-Body c =
     let k = was_body c.read.ensures c.in-Body.is in
     read_listed (kind_of c.args.kind) (map pos c.args.list.now) c.requires.0 (headed_room (sym (length-map c.args.list.now pos)) k) c.listed.ensures
 
--- at After-at
 pub returns-in-End : goal.returns-in-End
 returns-in-End c =
     read_end (kind_of c.args.kind) (map pos c.args.list.now) c.requires.0 (was_end c.read.ensures c.in-End.is) c.at.ensures
 
--- at In-No
 pub returns-in-No : goal.returns-in-No
 returns-in-No c =
     let k = was_no c.read.ensures c.in-No.is in

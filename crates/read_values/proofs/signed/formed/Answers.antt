@@ -3,17 +3,14 @@ use Rattle.read_values.specs.Told.{is, no}
 use Rattle.read_values.specs.Laws.Values.{correction_is, correction_out}
 use Rattle.read_values.proofs.signed.formed.Goals as goal
 
--- at After-at
 pub returns-then-is_none : goal.returns-then-is_none
 returns-then-is_none c =
     rw c.at.ensures (no (λ p. correction_out c.requires.1 c.requires.0 p c.if-is_none.true))
 
--- at Else-is_none
 pub halved-requires : goal.halved-requires
 halved-requires c =
     omega (arith, c.requires.1.takes.valid.0, c.if-is_none.false)
 
--- at After-halved
 pub returns : goal.returns
 returns c =
     let h = c.halved in

@@ -6,13 +6,11 @@ use Rattle.format.specs.Codes.{Word}
 use Rattle.layout.specs.Layout.{word}
 use Rattle.read_values.proofs.signed.next.Goals as goal
 
--- at After-on
 pub overflow_cast-q : goal.overflow_cast-q
 overflow_cast-q c =
     let (small, t) = c.glimpse-q.ensures c.if-q-eq0.false in
     omega arith
 
--- at After-on
 pub formed-requires : goal.formed-requires
 formed-requires c =
     let q = c.glimpse-q in

@@ -13,15 +13,12 @@ use Rattle.read_words.proofs.delta.read.Goals.{In-Took}
 first : (c : In-Took) → let a = c.args in Taken (word (Upward 32) gamma) a.s.now a.c c.in-Took.n c.in-Took.d
 first c = was_taken c.read_upto.ensures c.in-Took.is
 
--- at In-Took
 pub overflow_sub-size : goal.overflow_sub-size
 overflow_sub-size c = omega (arith, (first c).takes.valid.0)
 
--- at In-Took
 pub power-first-requires : goal.power-first-requires
 power-first-requires c = omega (arith, (first c).takes.valid.1)
 
--- at After-power-first
 pub between-requires : goal.between-requires
 between-requires c =
     let t = first (goal.at.between-requires c).In-Took in
@@ -30,7 +27,6 @@ between-requires c =
     let (e, q) = c.power-first.ensures in
     (t.within, most, omega arith, omega arith)
 
--- at After-between
 pub raised-requires : goal.raised-requires
 raised-requires c = told_fits 0 c.between.ensures (λ w k. omega (arith, k.2, pow_mono {j = 32} (first (goal.at.raised-requires c).In-Took).takes.valid.1))
 
@@ -38,7 +34,6 @@ raised-requires c = told_fits 0 c.between.ensures (λ w k. omega (arith, k.2, po
 alone : (n w : ℕ) → Upward 32 n → Long n w → Word (0 + w) × (delta_parts.parts (0 + w) ≡ (n, w))
 alone n w h l = subst (λ (x : ℕ). Word x × (delta_parts.parts x ≡ (n, w))) (sym (zero-add w)) (delta_made n w h l)
 
--- at After-raised
 pub returns-in-Took : goal.returns-in-Took
 returns-in-Took c =
     let a = c.args in
@@ -51,10 +46,8 @@ returns-in-Took c =
     let b = subst₂ (λ (x y : ℕ). ToldWord (Among n x y) (in_bits n) a.s.now c.in-Took.d r.result) lo hi r.ensures in
     subst (ToldWord Word delta a.s.now a.c) (sym c.raised.ensures) (second_told delta_parts (first (goal.at.returns-in-Took c).In-Took) (λ (w : ℕ). 0 + w) (λ w. alone n w valid) b)
 
--- at In-Cut
 pub returns-in-Cut : goal.returns-in-Cut
 returns-in-Cut c = first_cut delta_parts (was_cut c.read_upto.ensures c.in-Cut.is)
 
--- at In-Bad
 pub returns-in-Bad : goal.returns-in-Bad
 returns-in-Bad c = first_bad delta_parts (was_bad c.read_upto.ensures c.in-Bad.is)

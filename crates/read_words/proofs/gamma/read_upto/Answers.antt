@@ -23,26 +23,21 @@ worth c =
     let s = pow_mono (let first_here : (let a = c.args in Taken (word (Upto a.most) run) a.s.now a.c c.in-Took.z c.in-Took.d) = was_taken c.zeros.ensures c.in-Took.is in first_here).takes.valid in
     omega (arith, c.requires.2.low, c.power-p.ensures.0)
 
--- at In-Took
 pub power-p-requires : goal.power-p-requires
 power-p-requires c = omega (arith, (first c).takes.valid, c.requires.1)
 
--- at After-power-p
 pub most_after-requires : goal.most_after-requires
 most_after-requires c = (c.power-p.ensures.1, worth c)
 
--- at After-most_after
 pub between-requires : goal.between-requires
 between-requires c =
     let t = first (goal.at.between-requires c).In-Took in
     (t.within, omega (arith, t.takes.valid, c.requires.1), omega arith, subst (λ (y : ℕ). c.most_after.result < y) c.power-p.ensures.0 c.most_after.ensures.1)
 
--- at After-between
 pub raised-requires : goal.raised-requires
 raised-requires c =
     told_fits _ c.between.ensures (λ w k. omega (arith, k.1, c.most_after.ensures.0, worth (goal.at.raised-requires c).After-power-p, small (goal.at.raised-requires c).Start))
 
--- at After-raised
 pub returns-in-Took : goal.returns-in-Took
 returns-in-Took c =
     let m = c.most_after in
@@ -56,12 +51,10 @@ returns-in-Took c =
     (second_told (gamma_parts c.args.top c.args.most (small (goal.at.returns-in-Took c).Start) c.requires.2) (first (goal.at.returns-in-Took c).In-Took) (λ (x : ℕ). 2 ^ z + x)
     (λ x. gamma_made c.args.top c.args.most (small (goal.at.returns-in-Took c).Start) c.requires.2 z x (first (goal.at.returns-in-Took c).In-Took).takes.valid) b)
 
--- at In-Cut
 pub returns-in-Cut : goal.returns-in-Cut
 returns-in-Cut c =
     first_cut (gamma_parts c.args.top c.args.most (small (goal.at.returns-in-Cut c).Start) c.requires.2) (was_cut c.zeros.ensures c.in-Cut.is)
 
--- at In-Bad
 pub returns-in-Bad : goal.returns-in-Bad
 returns-in-Bad c =
     first_bad (gamma_parts c.args.top c.args.most (small (goal.at.returns-in-Bad c).Start) c.requires.2) (was_bad c.zeros.ensures c.in-Bad.is)

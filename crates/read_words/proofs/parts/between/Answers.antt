@@ -12,35 +12,28 @@ field-read c =
     let pre = c.requires in
     record { within = pre.0; order = pre.2; high = pre.3; width = (let width_here : (let a = c.args in c.least-w.result ≡ min a.n (a.c.stop.0 - a.c.at.0)) = c.least-w.ensures ∙ ap (min c.args.n) c.left.ensures in width_here); taken = field_taken c.field.ensures c.in-Took.is }
 
--- at Then-v64-lo
 pub live-requires : goal.live-requires
 live-requires c =
     let pre = c.requires in
     (omega (arith, width (goal.at.live-requires c).After-least-w), pre.1, pre.2, pre.3, (field-read (goal.at.live-requires c).In-Took).taken.takes.valid)
 
--- at After-ahead
 pub returns-then-v64-lo : goal.returns-then-v64-lo
 returns-then-v64-lo c = range_bad (field-read (goal.at.returns-then-v64-lo c).In-Took) (inl c.if-v64-lo.true) c.live.ensures c.ahead.ensures
 
--- at Then-hi-rest
 pub live-requires-then-hi-rest : goal.live-requires-then-hi-rest
 live-requires-then-hi-rest c =
     let pre = c.requires in
     (omega (arith, width (goal.at.live-requires-then-hi-rest c).After-least-w), pre.1, pre.2, pre.3, (field-read (goal.at.live-requires-then-hi-rest c).In-Took).taken.takes.valid)
 
--- at After-ahead-then-hi-rest
 pub returns-then-hi-rest : goal.returns-then-hi-rest
 returns-then-hi-rest c = range_bad (field-read (goal.at.returns-then-hi-rest c).In-Took) (inr c.if-hi-rest.true) c.live-then-hi-rest.ensures c.ahead-then-hi-rest.ensures
 
--- at Then-rest-eq0
 pub returns-then-rest-eq0 : goal.returns-then-rest-eq0
 returns-then-rest-eq0 c = range_took (field-read (goal.at.returns-then-rest-eq0 c).In-Took) c.if-rest-eq0.true c.if-v64-lo.false c.if-hi-rest.false
 
--- at Else-rest-eq0
 pub returns-else-rest-eq0 : goal.returns-else-rest-eq0
 returns-else-rest-eq0 c = range_cut (field-read (goal.at.returns-else-rest-eq0 c).In-Took) c.if-rest-eq0.false c.if-v64-lo.false c.if-hi-rest.false
 
--- at In-Cut
 pub returns-in-Cut : goal.returns-in-Cut
 returns-in-Cut c =
     let a = c.args in

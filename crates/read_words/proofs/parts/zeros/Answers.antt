@@ -2,19 +2,16 @@ use Rattle.std.proofs.Common.{arith}
 use Rattle.read_words.specs.Laws.Zeros.{run_cut, run_took, run_bad}
 use Rattle.read_words.proofs.parts.zeros.Goals as goal
 
--- at After-ahead
 pub returns-then-most-z : goal.returns-then-most-z
 returns-then-most-z c =
     let z = c.zeros-z in
     rw c.ahead.ensures (run_bad c.args.s.now c.args.c c.requires.0 c.args.most z.result z.ensures.0 z.ensures.1 (omega arith))
 
--- at Then-z-have
 pub returns-then-z-have : goal.returns-then-z-have
 returns-then-z-have c =
     let z = c.zeros-z in
     run_cut c.args.s.now c.args.c c.requires.0 c.args.most z.result z.ensures.0 z.ensures.1 (omega arith) (omega arith)
 
--- at After-on
 pub returns : goal.returns
 returns c =
     let z = c.zeros-z in

@@ -26,32 +26,25 @@ first c = was_taken (let told_here : (let a = c.args in ToldWord (Upto (most a.k
 base : (c : In-Took) → c.in-Took.q * c.power-p.result ≤ largest_word - 1
 base c = rw c.power-p.ensures.0 (base_le c.args.k c.in-Took.q (first c).takes.valid)
 
--- at In-Took
 pub overflow_mul-base : goal.overflow_mul-base
 overflow_mul-base c = record { fits = omega (arith, base c) }
 
--- at In-Took
 pub most_after-requires : goal.most_after-requires
 most_after-requires c = (c.power-p.ensures.1, base c)
 
--- at After-most_after
 pub between-requires : goal.between-requires
 between-requires c =
     ((first (goal.at.between-requires c).In-Took).within, omega (arith, c.requires.1), omega arith, subst (λ (y : ℕ). c.most_after.result < y) c.power-p.ensures.0 c.most_after.ensures.1)
 
--- at After-between
 pub overflow_add-base : goal.overflow_add-base
 overflow_add-base c = record { fits = omega (arith, base (goal.at.overflow_add-base c).In-Took) }
 
--- at After-between
 pub overflow_cast-base-in-Took-2 : goal.overflow_cast-base-in-Took-2
 overflow_cast-base-in-Took-2 c = record { fits = omega (arith, base (goal.at.overflow_cast-base-in-Took-2 c).In-Took) }
 
--- at After-between
 pub raised-requires : goal.raised-requires
 raised-requires c = told_fits _ c.between.ensures (λ w k. omega (arith, k.1, c.most_after.ensures.2))
 
--- at After-raised
 pub returns-in-Took : goal.returns-in-Took
 returns-in-Took c =
     let h = c.most_after in
@@ -65,11 +58,9 @@ returns-in-Took c =
     subst (ToldWord Word (rice a.k) a.s.now a.c) (sym e)
     (second_told (rice_parts a.k) (first (goal.at.returns-in-Took c).In-Took) (λ (x : ℕ). q * 2 ^ a.k + 1 + x) (λ x. rice_made a.k q x (first (goal.at.returns-in-Took c).In-Took).takes.valid) b)
 
--- at In-Cut
 pub returns-in-Cut : goal.returns-in-Cut
 returns-in-Cut c = first_cut (rice_parts c.args.k) (was_cut (told (goal.at.returns-in-Cut c).After-zeros) c.in-Cut.is)
 
--- at In-Bad
 pub returns-in-Bad : goal.returns-in-Bad
 returns-in-Bad c =
     first_bad (rice_parts c.args.k) (was_bad (told (goal.at.returns-in-Bad c).After-zeros) c.in-Bad.is)

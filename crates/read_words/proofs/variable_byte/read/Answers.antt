@@ -25,30 +25,24 @@ taken c = was_taken (let told_here : (let l = c.loop-v in ToldWord (NextGroup l.
     subst₂ (λ (m n : ℕ). ToldWord (FlagAndGroup m n) (in_bits 8) c.args.s.now c.loop-v.d c.unit.result)
     most lo c.unit.ensures in told_here) c.in-Took.is
 
--- at After-shared_slice_known-1
 pub loop-v-init : goal.loop-v-init
 loop-v-init c = start c.args.s.now c.args.c c.requires
 
--- at Then-v-eq0
 pub returns-then-v-eq0 : goal.returns-then-v-eq0
 returns-then-v-eq0 c = last c.loop-v.invariant (taken (goal.at.returns-then-v-eq0 c).In-Took) (omega arith)
 
--- at Else-v-eq0
 pub loop-v-smaller : goal.loop-v-smaller
 loop-v-smaller c =
     let (_, l, _) = (taken (goal.at.loop-v-smaller c).In-Took).takes.valid in
     let n = next c.loop-v.invariant (taken (goal.at.loop-v-smaller c).In-Took) (omega arith) in
     omega (arith, n.room)
 
--- at Else-v-eq0
 pub loop-v-preserved : goal.loop-v-preserved
 loop-v-preserved c = next c.loop-v.invariant (taken (goal.at.loop-v-preserved c).In-Took) (omega arith)
 
--- at In-Cut
 pub returns-in-Cut : goal.returns-in-Cut
 returns-in-Cut c = unit_cut c.loop-v.invariant (was_cut (told (goal.at.returns-in-Cut c).After-unit) c.in-Cut.is)
 
--- at In-Bad
 pub returns-in-Bad : goal.returns-in-Bad
 returns-in-Bad c =
     unit_bad c.loop-v.invariant (was_bad (told (goal.at.returns-in-Bad c).After-unit) c.in-Bad.is)

@@ -12,32 +12,26 @@ use Rattle.read_words.proofs.variable_byte.unit.Goals.{In-Took}
 first : (c : In-Took) → let a = c.args in Taken (word (Among 1 0 a.most) (in_bits 1)) a.s.now a.c c.in-Took.flag c.in-Took.d
 first c = was_taken c.between.ensures c.in-Took.is
 
--- at In-Took
 pub between-requires-in-Took : goal.between-requires-in-Took
 between-requires-in-Took c = ((first c).within, omega arith, omega (arith, c.requires.2), omega arith)
 
--- at After-between-in-Took
 pub overflow_mul-flag : goal.overflow_mul-flag
 overflow_mul-flag c = let (_, _, h) = (first (goal.at.overflow_mul-flag c).In-Took).takes.valid in record { fits = omega arith }
 
--- at After-between-in-Took
 pub raised-requires : goal.raised-requires
 raised-requires c =
     let (_, _, h) = (first (goal.at.raised-requires c).In-Took).takes.valid in
     told_fits _ c.between-in-Took.ensures (λ w k. omega (arith, k.1))
 
--- at After-raised
 pub returns-in-Took : goal.returns-in-Took
 returns-in-Took c =
     subst (ToldWord (FlagAndGroup c.args.most c.args.lo) (in_bits 8) c.args.s.now c.args.c) (sym c.raised.ensures)
     (unit_told c.args.most c.args.lo c.requires.1 c.requires.2 (first (goal.at.returns-in-Took c).In-Took) c.between-in-Took.ensures)
 
--- at In-Cut
 pub returns-in-Cut : goal.returns-in-Cut
 returns-in-Cut c =
     first_cut (unit_parts c.args.most c.args.lo c.requires.1 c.requires.2) (was_cut c.between.ensures c.in-Cut.is)
 
--- at In-Bad
 pub returns-in-Bad : goal.returns-in-Bad
 returns-in-Bad c =
     first_bad (unit_parts c.args.most c.args.lo c.requires.1 c.requires.2) (was_bad c.between.ensures c.in-Bad.is)

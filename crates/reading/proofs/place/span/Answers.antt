@@ -2,18 +2,14 @@ use Rattle.std.proofs.Common.{arith, rules}
 use Rattle.reading.specs.Laws.Places.{place_long, place_order, place_past, place_right}
 use Rattle.reading.proofs.place.span.Goals as goal
 
--- at Then-too_long
 pub returns-then-too_long : goal.returns-then-too_long
 returns-then-too_long c = place_long _ _ _ (omega (arith, c.if-too_long.true))
 
--- at Then-bit
 pub returns-then-bit : goal.returns-then-bit
 returns-then-bit c = place_order _ _ _ (omega (arith, c.if-bit.true, c.bit-2.ensures, c.bit.ensures))
 
--- at Then-s-bit
 pub returns-then-s-bit : goal.returns-then-s-bit
 returns-then-s-bit c = place_past _ _ _ (omega (arith, c.if-s-bit.true, c.bit-3.ensures))
 
--- at After-new
 pub returns : goal.returns
 returns c = place_right _ _ _ c.new.ensures.0 (omega (arith, c.if-too_long.false)) (search rules) (search rules)

@@ -5,13 +5,11 @@ use Rattle.headings.specs.Bodies.{image_by}
 use Rattle.write_lists.specs.Laws.Images.{correction_word, counted_none, counted_fits, counted_more, counted_all}
 use Rattle.write_lists.proofs.signed.count.Goals as goal
 
--- at Start
 pub loop-i-init : goal.loop-i-init
 loop-i-init c =
     let a = c.args in
     ((pos 0, counted_none (image_by a.code) Corrections a.values.now c.requires.1), omega arith, omega arith)
 
--- at After-word-arg-1
 pub word-requires : goal.word-requires
 word-requires c =
     let a = c.args in
@@ -21,7 +19,6 @@ word-requires c =
     let e = to_z-of_z {w = w32} {z = get_or a.values.now i (pos 0)} (search rules) in
     rw e (counted_fits (image_by a.code) Corrections a.values.now b.1 v).0
 
--- at After-count-total
 pub loop-i-preserved : goal.loop-i-preserved
 loop-i-preserved c =
     let a = c.args in
@@ -32,7 +29,6 @@ loop-i-preserved c =
     let w = rw e at c.word.ensures.0 in
     ((get_or a.values.now i (pos 0), counted_more (image_by a.code) Corrections a.values.now b.1 c.count-total.result v (w ∙ correction_word b.0 (get_or a.values.now i (pos 0))) c.count-total.ensures.0), omega arith, omega arith)
 
--- at After-loop-i
 pub returns : goal.returns
 returns c =
     let a = c.args in

@@ -5,13 +5,11 @@ use Rattle.headings.specs.Bodies.{image_by}
 use Rattle.write_lists.specs.Laws.Images.{correction_word, midway_none, midway_fits, midway_room, midway_more, midway_all}
 use Rattle.write_lists.proofs.signed.write.Goals as goal
 
--- at After-slice_known-1
 pub loop-i-init : goal.loop-i-init
 loop-i-init c =
     let a = c.args in
     ((pos 0, midway_none (image_by a.code) Corrections a.values.now c.requires.room c.requires.known.1), omega arith, omega arith)
 
--- at After-word-arg-1
 pub word-requires : goal.word-requires
 word-requires c =
     let a = c.args in
@@ -22,7 +20,6 @@ word-requires c =
     let e = to_z-of_z {w = w32} {z = x} (search rules) in
     rw e (midway_fits (image_by a.code) Corrections a.values.now c.requires.room b.1 v).0
 
--- at After-word
 pub write-next-requires : goal.write-next-requires
 write-next-requires c =
     let a = c.args in
@@ -35,7 +32,6 @@ write-next-requires c =
     let d = rw e at w.0 in
     (c.requires.known.0, w.1, midway_room (image_by a.code) Corrections a.values.now c.requires.room b.1 v (d ∙ correction_word b.0 x) c.loop-i.invariant.2)
 
--- at After-slice_known-in-loop-i-1
 pub loop-i-preserved : goal.loop-i-preserved
 loop-i-preserved c =
     let a = c.args in
@@ -48,7 +44,6 @@ loop-i-preserved c =
     let w = c.write-next.ensures in
     ((x, midway_more (image_by a.code) Corrections a.values.now c.requires.room b.1 v (d ∙ correction_word b.0 x) w), omega arith, omega arith)
 
--- at After-loop-i
 pub returns : goal.returns
 returns c =
     let a = c.args in

@@ -6,25 +6,21 @@ use Rattle.headings.specs.Bodies.{image_by}
 use Rattle.write_lists.specs.Laws.Images.{counted_none, counted_fits, counted_more, counted_all}
 use Rattle.write_lists.proofs.unsigned.count.Goals as goal
 
--- at After-shared_slice_known-1
 pub loop-i-init : goal.loop-i-init
 loop-i-init c =
     let a = c.args in
     (counted_none (image_by a.code) (unsigned_kind a.instants) (map pos a.values.now) c.requires.1, omega arith, omega arith)
 
--- at After-shared_slice_known-in-loop-i-1
 pub word-requires : goal.word-requires
 word-requires c =
     let a = c.args in
     counted_fits (image_by a.code) (unsigned_kind a.instants) (map pos a.values.now) c.loop-i.invariant.0 (at_unsigned a.values.now c.loop-i.i c.loop-i-test.true)
 
--- at After-count-total
 pub loop-i-preserved : goal.loop-i-preserved
 loop-i-preserved c =
     let a = c.args in
     (counted_more (image_by a.code) (unsigned_kind a.instants) (map pos a.values.now) c.loop-i.invariant.0 c.count-total.result (at_unsigned a.values.now c.loop-i.i c.loop-i-test.true) c.word.ensures.0 c.count-total.ensures.0, omega arith, omega arith)
 
--- at After-loop-i
 pub returns : goal.returns
 returns c =
     let a = c.args in

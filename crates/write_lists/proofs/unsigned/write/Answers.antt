@@ -6,13 +6,11 @@ use Rattle.headings.specs.Bodies.{image_by}
 use Rattle.write_lists.specs.Laws.Images.{midway_none, midway_fits, midway_room, midway_more, midway_all}
 use Rattle.write_lists.proofs.unsigned.write.Goals as goal
 
--- at After-shared_slice_known-1
 pub loop-i-init : goal.loop-i-init
 loop-i-init c =
     let a = c.args in
     (midway_none (image_by a.code) (unsigned_kind a.instants) (map pos a.values.now) c.requires.room c.requires.known.1, omega arith, omega arith)
 
--- at After-write-arg-1
 pub word-requires : goal.word-requires
 word-requires c =
     let a = c.args in
@@ -20,7 +18,6 @@ word-requires c =
     let v = at_unsigned a.values.now c.loop-i.i c.loop-i-test.true in
     midway_fits (image_by a.code) (unsigned_kind a.instants) (map pos a.values.now) c.requires.room b v
 
--- at After-word
 pub write-next-requires : goal.write-next-requires
 write-next-requires c =
     let a = c.args in
@@ -29,7 +26,6 @@ write-next-requires c =
     let w = c.word.ensures in
     (c.requires.known.0, w.1, midway_room (image_by a.code) (unsigned_kind a.instants) (map pos a.values.now) c.requires.room b v w.0 c.loop-i.invariant.2)
 
--- at After-slice_known-in-loop-i-1
 pub loop-i-preserved : goal.loop-i-preserved
 loop-i-preserved c =
     let a = c.args in
@@ -38,7 +34,6 @@ loop-i-preserved c =
     let w = c.write-next.ensures in
     (midway_more (image_by a.code) (unsigned_kind a.instants) (map pos a.values.now) c.requires.room b v c.word.ensures.0 w, omega arith, omega arith)
 
--- at After-loop-i
 pub returns : goal.returns
 returns c =
     let a = c.args in

@@ -2,7 +2,6 @@ use Rattle.std.proofs.Common.{arith}
 use Rattle.write_records.specs.Laws.Images.{length_heading}
 use Rattle.write_records.proofs.heading.count.Goals as goal
 
--- at After-count
 pub returns : goal.returns
 returns c =
     let e = length_heading c.args.h c.args.n in

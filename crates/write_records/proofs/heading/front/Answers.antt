@@ -3,7 +3,6 @@ use Rattle.headings.specs.Headings.{carried}
 use Rattle.write_records.specs.Laws.Images.{front_number, front_lt, front_fits}
 use Rattle.write_records.proofs.heading.front.Goals as goal
 
--- at After-power
 pub overflow_mul-result : goal.overflow_mul-result
 overflow_mul-result c =
     let w = c.parameter_width in
@@ -12,7 +11,6 @@ overflow_mul-result c =
     let f = front_fits both c.power.result w.result small c.power.ensures.0 w.ensures.1 in
     omega (arith, f)
 
--- at After-parameter
 pub overflow_add-result : goal.overflow_add-result
 overflow_add-result c =
     let w = c.parameter_width in
@@ -22,7 +20,6 @@ overflow_add-result c =
     let h : carried c.args.h.code ≤ 31 = c.requires in
     omega (arith, f, h, c.parameter.ensures)
 
--- at After-parameter
 pub returns : goal.returns
 returns c =
     let n = c.code_number in

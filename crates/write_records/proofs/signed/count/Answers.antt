@@ -3,11 +3,9 @@ use Rattle.write_records.specs.Laws.Images.{length_record}
 use Rattle.write_records.specs.Laws.Bodies.{small_parameter}
 use Rattle.write_records.proofs.signed.count.Goals as goal
 
--- at Start
 pub count-requires : goal.count-requires
 count-requires c = (small_parameter c.args.h c.args.values.now c.requires.valid, c.requires.valid.count)
 
--- at After-count_body
 pub returns : goal.returns
 returns c =
     let a = c.args in

@@ -4,11 +4,9 @@ use Rattle.write_records.specs.Laws.Bodies.{small_parameter, words_image, words_
 use Rattle.headings.specs.Laws.Bodies.{was_words, was_halves}
 use Rattle.write_records.proofs.signed.count_body.Goals as goal
 
--- at Start
 pub body_of-requires : goal.body_of-requires
 body_of-requires c = small_parameter c.args.h c.args.values.now c.requires.valid
 
--- at In-ByWords
 pub count-requires : goal.count-requires
 count-requires c =
     let a = c.args in
@@ -16,7 +14,6 @@ count-requires c =
     let t = was_words c.body_of.ensures c.in-ByWords.is in
     (t.0, words_list a.h vs Corrections c.requires.valid (is_corrections a.h vs c.requires), c.requires.valid.count)
 
--- at After-count
 pub returns-in-ByWords : goal.returns-in-ByWords
 returns-in-ByWords c =
     let a = c.args in
@@ -24,7 +21,6 @@ returns-in-ByWords c =
     let t = was_words c.body_of.ensures c.in-ByWords.is in
     (c.count.ensures.0 ∙ ap length (sym (words_image a.h vs c.in-ByWords.words Corrections t.1 (is_corrections a.h vs c.requires))), omega arith)
 
--- at In-ByHalves
 pub returns-in-ByHalves : goal.returns-in-ByHalves
 returns-in-ByHalves c =
     absurd (not_halves c.args.h c.args.values.now c.requires (was_halves c.body_of.ensures c.in-ByHalves.is))

@@ -5,12 +5,10 @@ use Rattle.write_records.specs.Laws.Bodies.{small_parameter, words_image, words_
 use Rattle.headings.specs.Laws.Bodies.{was_words, was_halves}
 use Rattle.write_records.proofs.signed.write_body.Goals as goal
 
--- at After-slice_known-1
 pub body_of-requires : goal.body_of-requires
 body_of-requires c =
     small_parameter c.args.h c.args.values.now c.requires.signed_record.valid
 
--- at After-write-arg-1
 pub write-requires : goal.write-requires
 write-requires c =
     let a = c.args in
@@ -20,7 +18,6 @@ write-requires c =
     let l = words_image a.h vs c.in-ByWords.words Corrections t.1 e in
     record { known = (t.0, words_list a.h vs Corrections c.requires.signed_record.valid e); room = room_as l c.requires.room }
 
--- at After-slice_known-in-ByWords-1
 pub returns-in-ByWords : goal.returns-in-ByWords
 returns-in-ByWords c =
     let a = c.args in
@@ -28,7 +25,6 @@ returns-in-ByWords c =
     let t = was_words c.body_of.ensures c.in-ByWords.is in
     drawn_as (sym (words_image a.h vs c.in-ByWords.words Corrections t.1 (is_corrections a.h vs c.requires.signed_record))) c.write.ensures
 
--- at In-ByHalves
 pub returns-in-ByHalves : goal.returns-in-ByHalves
 returns-in-ByHalves c =
     absurd (not_halves c.args.h c.args.values.now c.requires.signed_record (was_halves c.body_of.ensures c.in-ByHalves.is))

@@ -4,13 +4,11 @@ use Rattle.write_records.specs.Laws.Images.{length_record}
 use Rattle.write_records.specs.Laws.Bodies.{small_parameter}
 use Rattle.write_records.proofs.unsigned.count.Goals as goal
 
--- at After-shared_slice_known-1
 pub count-requires : goal.count-requires
 count-requires c =
     let a = c.args in
     (small_parameter a.h (map pos a.values.now) c.requires.valid, omega (arith, c.requires.valid.count, length-map a.values.now pos))
 
--- at After-count_body
 pub returns : goal.returns
 returns c =
     let a = c.args in

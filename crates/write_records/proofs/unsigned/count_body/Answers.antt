@@ -5,12 +5,10 @@ use Rattle.write_records.specs.Laws.Bodies.{small_parameter, words_image, words_
 use Rattle.headings.specs.Laws.Bodies.{was_words, was_halves}
 use Rattle.write_records.proofs.unsigned.count_body.Goals as goal
 
--- at After-is_instants-instants
 pub body_of-requires : goal.body_of-requires
 body_of-requires c =
     small_parameter c.args.h (map pos c.args.values.now) c.requires.valid
 
--- at In-ByWords
 pub count-requires : goal.count-requires
 count-requires c =
     let a = c.args in
@@ -19,14 +17,12 @@ count-requires c =
     let k = c.is_instants-instants in
     (t.0, words_list a.h vs (unsigned_kind k.result) c.requires.valid (k.ensures.instants_if c.requires.family), omega (arith, c.requires.valid.count, length-map a.values.now pos))
 
--- at In-ByHalves
 pub count-requires-in-ByHalves : goal.count-requires-in-ByHalves
 count-requires-in-ByHalves c =
     let a = c.args in
     let e = was_halves c.body_of.ensures c.in-ByHalves.is in
     (halves_never a.h a.values.now c.requires.valid e, omega (arith, c.requires.valid.count, length-map a.values.now pos))
 
--- at After-count
 pub returns-in-ByWords : goal.returns-in-ByWords
 returns-in-ByWords c =
     let a = c.args in
@@ -35,7 +31,6 @@ returns-in-ByWords c =
     let k = c.is_instants-instants in
     (c.count.ensures.0 ∙ ap length (sym (words_image a.h vs c.in-ByWords.words (unsigned_kind k.result) t.1 (k.ensures.instants_if c.requires.family))), omega arith)
 
--- at After-count-in-ByHalves
 pub returns-in-ByHalves : goal.returns-in-ByHalves
 returns-in-ByHalves c =
     let a = c.args in

@@ -1,11 +1,9 @@
 use Rattle.write_records.specs.Laws.Images.{puts_full, puts_done}
 use Rattle.write_records.proofs.unsigned.put.Goals as goal
 
--- at Then-left-count
 pub returns-then-left-count : goal.returns-then-left-count
 returns-then-left-count c = puts_full c.bit.ensures c.count.ensures.0 c.if-left-count.true
 
--- at After-slice_known-2-1
 pub returns : goal.returns
 returns c =
     puts_done c.bit.ensures c.count.ensures.0 c.if-left-count.false c.write.ensures c.slice_known-2-1.given

@@ -4,7 +4,6 @@ use Rattle.write_records.specs.Laws.Images.{length_record, record_written}
 use Rattle.write_records.specs.Laws.Bodies.{small_parameter}
 use Rattle.write_records.proofs.unsigned.write.Goals as goal
 
--- at After-write-arg-1
 pub write-after_heading-requires : goal.write-after_heading-requires
 write-after_heading-requires c =
     let a = c.args in
@@ -12,7 +11,6 @@ write-after_heading-requires c =
     let p = c.open-pen.ensures in
     record { code_bound = (small_parameter a.h (map pos a.values.now) c.requires.unsigned_record.valid, omega (arith, c.requires.unsigned_record.valid.count, length-map a.values.now pos)); room = record { within = p.within; fits = omega (arith, e, p.told, c.requires.room.0) } }
 
--- at After-write_body-arg-1
 pub write_body-after_body-requires : goal.write_body-after_body-requires
 write_body-after_body-requires c =
     let a = c.args in
@@ -20,7 +18,6 @@ write_body-after_body-requires c =
     let d = c.write-after_heading.ensures in
     record { unsigned_record = c.requires.unsigned_record; room = record { within = d.within; fits = omega (arith, e, d.told, c.write-after_heading.auto.buf, c.open-pen.ensures.told, c.requires.room.0) } }
 
--- at After-slice_known-4-1
 pub returns : goal.returns
 returns c =
     let a = c.args in

@@ -6,12 +6,10 @@ use Rattle.write_records.specs.Laws.Bodies.{small_parameter, words_image, words_
 use Rattle.headings.specs.Laws.Bodies.{was_words, was_halves}
 use Rattle.write_records.proofs.unsigned.write_body.Goals as goal
 
--- at After-is_instants-instants
 pub body_of-requires : goal.body_of-requires
 body_of-requires c =
     small_parameter c.args.h (map pos c.args.values.now) c.requires.unsigned_record.valid
 
--- at After-write-arg-1
 pub write-requires : goal.write-requires
 write-requires c =
     let a = c.args in
@@ -22,7 +20,6 @@ write-requires c =
     let l = words_image a.h vs c.in-ByWords.words (unsigned_kind k.result) t.1 e in
     record { known = (t.0, words_list a.h vs (unsigned_kind k.result) c.requires.unsigned_record.valid e); room = room_as l c.requires.room }
 
--- at After-write-arg-in-ByHalves-1
 pub write-requires-in-ByHalves : goal.write-requires-in-ByHalves
 write-requires-in-ByHalves c =
     let a = c.args in
@@ -30,7 +27,6 @@ write-requires-in-ByHalves c =
     let l = halves_image a.h a.values.now e in
     record { never_falls = (halves_never a.h a.values.now c.requires.unsigned_record.valid e, omega (arith, c.requires.unsigned_record.valid.count, length-map a.values.now pos)); room = room_as l c.requires.room }
 
--- at After-slice_known-in-ByWords-1
 pub returns-in-ByWords : goal.returns-in-ByWords
 returns-in-ByWords c =
     let a = c.args in
@@ -39,7 +35,6 @@ returns-in-ByWords c =
     let k = c.is_instants-instants in
     drawn_as (sym (words_image a.h vs c.in-ByWords.words (unsigned_kind k.result) t.1 (k.ensures.instants_if c.requires.unsigned_record.family))) c.write.ensures
 
--- at After-slice_known-in-ByHalves-1
 pub returns-in-ByHalves : goal.returns-in-ByHalves
 returns-in-ByHalves c =
     let a = c.args in

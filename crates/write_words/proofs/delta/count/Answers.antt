@@ -3,11 +3,9 @@ use Rattle.bits.specs.Laws.Length.{size_pos, size_small}
 use Rattle.write_words.specs.Laws.Writes.{length_gamma, length_delta}
 use Rattle.write_words.proofs.delta.count.Goals as goal
 
--- at After-length-digits
 pub count-requires : goal.count-requires
 count-requires c = omega (arith, size_pos c.args.w c.requires)
 
--- at After-count
 pub returns : goal.returns
 returns c =
     let n = c.length-digits.result in

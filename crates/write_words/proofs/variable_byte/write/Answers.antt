@@ -4,11 +4,9 @@ use Rattle.pen.specs.Laws.Pen.{drawn_as, begun_none, begun_told, begun_more, beg
 use Rattle.write_words.specs.Laws.Writes.{length_groups, length_variable_byte, unit_first}
 use Rattle.write_words.proofs.variable_byte.write.Goals as goal
 
--- at After-groups-later
 pub loop-later-init : goal.loop-later-init
 loop-later-init c = (omega arith, refl, begun_none c.requires.1.within)
 
--- at After-unit
 pub field-next-requires : goal.field-next-requires
 field-next-requires c =
     let i = c.loop-later.invariant in
@@ -17,17 +15,12 @@ field-next-requires c =
     let w = c.args.w in
     (i.2.drawn.within, omega (arith, b, i.1, c.requires.1.fits, length_groups c.loop-later.later w, length_groups g.result w, length_variable_byte w, g.ensures.0), omega arith, c.unit.ensures.1)
 
--- at After-slice_known-in-loop-later-1
 pub loop-later-preserved : goal.loop-later-preserved
 loop-later-preserved c =
     let i = c.loop-later.invariant in
     let e : c.loop-later.later ≡ suc (c.loop-later.later - 1) = omega arith in
     (omega arith, c.field-next.auto.buf ∙ i.1, begun_more c.requires.1.within i.2 (ap (λ (n : ℕ). groups n c.args.w) e ∙ unit_first (c.loop-later.later - 1) c.args.w c.unit.result c.unit.ensures.0) c.field-next.ensures)
 
--- GONE same-length
--- same_length c = c.before.loop.invariant.1
-
--- at After-loop-later
 pub returns : goal.returns
 unfolding variable_byte groups
 returns c =
