@@ -13,7 +13,7 @@ use Rattle.read_values.specs.declared.unsigned.Value.TheVariants as OfValue
 use Rattle.read_values.specs.declared.signed.Correction.{Correction}
 use Rattle.read_values.specs.declared.signed.Correction.TheVariants as OfCorrection
 
--- a value after p, as `wordsBy` lays each one out: "10: an instant above 4,294,967,294, or the word 1 in kind 2"
+-- a value after p, as `words_by` lays each one out: "10: an instant above 4,294,967,294, or the word 1 in kind 2"
 abbrev pub value_by : (ℕ → List Bool) → Kind → ℤ → Layout ℤ
 value_by image t p = only 10 (Fits t p) (word_of t p) (word Word image)
 
