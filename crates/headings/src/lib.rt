@@ -63,7 +63,8 @@ pub fn code_of(code: u32, parameter: u32) -> CodeChoice
         return CodeChoice::Is(Code::Delta);
     }
     if code == 3 {
-        if LARGEST_PARAMETER < parameter {
+        let too_large = LARGEST_PARAMETER < parameter;
+        if too_large {
             return CodeChoice::Unknown;
         }
         return CodeChoice::Is(Code::Rice(parameter));
@@ -71,7 +72,8 @@ pub fn code_of(code: u32, parameter: u32) -> CodeChoice
     if code == 4 {
         return CodeChoice::Is(Code::VariableByte);
     }
-    if code == 5 {
+    let interpolative = code == 5;
+    if interpolative {
         return CodeChoice::Is(Code::Interpolative);
     }
     CodeChoice::Unknown

@@ -1,7 +1,7 @@
 -- What judging a part comes to.
 use Rattle.std.specs.Prelude.{List, ℕ, ◌+◌}
 use Rattle.format.specs.Interpolative.{part}
-use Rattle.format.proofs.Laws.Interpolative.{sinking}
+use Rattle.format.specs.Laws.Interpolative.{sinking}
 use Rattle.equal_instants.specs.Sums.{Sums}
 use Rattle.read_middles.specs.Parts.{ToldNext}
 

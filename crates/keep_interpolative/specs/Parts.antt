@@ -2,7 +2,7 @@
 use Rattle.std.specs.Prelude.{◌≡◌, List, ℕ, ◌+◌}
 use Rattle.std.proofs.lemmas.List.Edits.{sets}
 use Rattle.format.specs.Interpolative.{part}
-use Rattle.format.proofs.Laws.Interpolative.{sinking}
+use Rattle.format.specs.Laws.Interpolative.{sinking}
 use Rattle.read_middles.specs.Parts.{ToldNext}
 
 -- a part is read, and the instants of its elements have been put into a list, from `start` on

@@ -23,7 +23,8 @@ fn outside(instants: bool, v: u32) -> bool
     if instants {
         return LARGEST_INSTANT < v;
     }
-    if v < 1 {
+    let too_small = v < 1;
+    if too_small {
         return true;
     }
     LARGEST_WORD < v

@@ -4,7 +4,7 @@ use Rattle.layout.specs.Layout.{Layout}
 use Rattle.format.specs.Kinds.{Instants}
 use Rattle.format.specs.Records.{Interpolative, body}
 use Rattle.format.specs.Interpolative.{offset, part}
-use Rattle.format.proofs.Laws.Interpolative.{sinking}
+use Rattle.format.specs.Laws.Interpolative.{sinking}
 use Rattle.bits.specs.Cursor.{Taken, Refuses}
 use Rattle.bits.specs.declared.Cursor.{Cursor}
 use Rattle.reading.specs.Reached.{Reached}

@@ -28,7 +28,8 @@ pub fn unwanted(wanted: Wanted, kind: Kind) -> bool
 pub fn amiss(code: Code, kind: Kind) -> bool
     ensures { Unless (Goes (code_of code) (kind_of kind)) result }
 {
-    if headings::code_number(code) != 5 {
+    let by_words = headings::code_number(code) != 5;
+    if by_words {
         return false;
     }
     headings::kind_number(kind) != 1

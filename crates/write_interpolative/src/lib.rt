@@ -4,7 +4,7 @@
 ghost use Rattle.std.specs.Prelude.{◌≡◌, ◌+◌, ◌-◌, ◌*◌, ◌/◌, ◌^◌, ◌≤◌, ◌<◌, length, get_or};
 ghost use Rattle.format.specs.Limits.{longest_list, largest_instant};
 ghost use Rattle.format.specs.Interpolative.{width, interpolative};
-ghost use Rattle.format.proofs.Laws.Interpolative.{NeverFalls};
+ghost use Rattle.format.specs.Laws.Interpolative.{NeverFalls};
 ghost use Rattle.pen.specs.Pen.{Room, Drawn};
 ghost use Rattle.write_interpolative.specs.Parts.{image, Ready, Halves, Body};
 

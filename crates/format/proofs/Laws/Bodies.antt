@@ -13,7 +13,8 @@ use Rattle.format.specs.Interpolative.{interpolative}
 use Rattle.format.specs.Records.{Code, Gamma, Delta, Rice, VariableByte, Interpolative, words_by, body}
 use Rattle.format.proofs.Laws.Codes.{words_search, one_word, gamma_free, delta_free, rice_free, variable_byte_free}
 use Rattle.format.proofs.Laws.Kinds.{fits_word, word_one, word_source}
-use Rattle.format.proofs.Laws.Interpolative.{NeverFalls, interpolative_sound, interpolative_total, interpolative_holds, interpolative_never}
+use Rattle.format.specs.Laws.Interpolative.{NeverFalls}
+use Rattle.format.proofs.Laws.Interpolative.{interpolative_sound, interpolative_total, interpolative_holds, interpolative_never}
 
 -- ---- words in order, by whatever code of words
 

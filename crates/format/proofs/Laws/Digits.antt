@@ -6,8 +6,9 @@ use Rattle.std.proofs.Math.Decide.{dec_lt, dec_le}
 use Rattle.format.specs.Codes.{digits}
 use Rattle.format.specs.Interpolative.{width}
 use Rattle.format.specs.Restated.{Held}
-
 -- the table and the worked cases come first: a definition that no longer gives their numbers is refused there, whatever the proofs below make of it
+use Rattle.format.specs.Table
+use Rattle.format.proofs.Laws.Cases
 
 pub digits_held : (b f n : ℕ) → 0 < n → n < b ^ f → (m : ℕ) × (digits b f n ≡ suc m) × Held b n m
 unfolding digits

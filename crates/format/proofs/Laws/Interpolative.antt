@@ -10,13 +10,9 @@ use Rattle.format.specs.Limits.{largest_instant}
 use Rattle.format.specs.Codes.{Word, delta}
 use Rattle.format.specs.Interpolative.{part, rising, last_and_others, interpolative}
 use Rattle.format.specs.Restated.{Rising}
+use Rattle.format.specs.Laws.Interpolative.{NeverFalls, sinking}
 use Rattle.format.proofs.Laws.Codes.{delta_free, words_search, one_word}
 use Rattle.format.proofs.Laws.Parts.{rising_room, part_length, part_sound, part_holds, part_rises, part_total}
-
--- no instant below the one before, q, and none above the largest
-abbrev pub NeverFalls : ℕ → List ℕ → Type 0
-NeverFalls q [] = Unit {0}
-NeverFalls q (t ∷ ts) = (q ≤ t) × (t ≤ largest_instant) × NeverFalls t ts
 
 -- ---- the rising list
 
@@ -66,11 +62,6 @@ last_one d b c h l e =
     apart d b h
     ∙ ap₂ (λ (s : List ℕ) (v : ℕ). s ++ v ∷ []) (rising_one 1 (take d b) (take d c) (ap (λ (p : ℕ × List ℕ). p.1) e)) (ap (λ (p : ℕ × List ℕ). p.0) e)
     ∙ sym (apart d c l)
-
--- the instants again, from the rising list
-abbrev pub sinking : ℕ → List ℕ → List ℕ
-sinking i [] = []
-sinking i (x ∷ xs) = (x - i) ∷ sinking (suc i) xs
 
 pub length_sinking : (i : ℕ) (xs : List ℕ) → length (sinking i xs) ≡ length xs
 length_sinking i [] = refl

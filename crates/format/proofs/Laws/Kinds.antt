@@ -7,8 +7,9 @@ use Rattle.layout.proofs.Laws.Total.{Source}
 use Rattle.format.specs.Limits.{largest_instant}
 use Rattle.format.specs.Codes.{Word}
 use Rattle.format.specs.Kinds.{Kind, Plain, Instants, Corrections, kind_number, Family, Unsigned, Signed, natural, Fits, word_of}
-
 -- the table and the worked cases come first: a definition that no longer gives their numbers is refused there, whatever the proofs below make of it
+use Rattle.format.specs.Table
+use Rattle.format.proofs.Laws.Cases
 
 -- ---- values and words
 

@@ -8,7 +8,8 @@ use Rattle.std.proofs.lemmas.Nat.{leading_top, shl-shr}
 use Rattle.std.proofs.Math.Pow.{shr_mono, high, field}
 use Rattle.layout.specs.Bits.{odd, in_bits, zeros}
 use Rattle.layout.specs.Layout.{word}
-use Rattle.layout.proofs.Laws.Bits.{val, front_is, in_bits_split, in_bits_cat, in_bits_mod}
+use Rattle.layout.specs.Laws.Bits.{val}
+use Rattle.layout.proofs.Laws.Bits.{front_is, in_bits_split, in_bits_cat, in_bits_mod}
 use Rattle.layout.proofs.Laws.Windows.{zeros_lead}
 use Rattle.format.specs.Codes.{Word, size, binary, gamma, delta, rice, groups, variable_byte}
 use Rattle.format.proofs.Laws.Codes.{sized, grouped_word}

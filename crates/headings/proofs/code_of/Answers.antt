@@ -8,8 +8,8 @@ returns-then-code-eq1 c = search (rules, gamma_is)
 pub returns-then-code-eq2 : goal.returns-then-code-eq2
 returns-then-code-eq2 c = search (rules, delta_is)
 
-pub returns-then-parameter-gt-LARGEST_PARAMETER : goal.returns-then-parameter-gt-LARGEST_PARAMETER
-returns-then-parameter-gt-LARGEST_PARAMETER c = search (rules, rice_over)
+pub returns-then-too_large : goal.returns-then-too_large
+returns-then-too_large c = search (rules, rice_over)
 
 pub returns-then-code-eq3 : goal.returns-then-code-eq3
 returns-then-code-eq3 c = search (rules, rice_is)
@@ -17,8 +17,8 @@ returns-then-code-eq3 c = search (rules, rice_is)
 pub returns-then-code-eq4 : goal.returns-then-code-eq4
 returns-then-code-eq4 c = search (rules, variable_byte_is)
 
-pub returns-then-code-eq5 : goal.returns-then-code-eq5
-returns-then-code-eq5 c = search (rules, interpolative_is)
+pub returns-then-interpolative : goal.returns-then-interpolative
+returns-then-interpolative c = search (rules, interpolative_is)
 
 pub returns : goal.returns
 returns c = search (rules, no_code)

@@ -6,7 +6,7 @@ use Rattle.layout.specs.Layout.{fixed}
 use Rattle.format.specs.Codes.{digits}
 use Rattle.format.specs.Interpolative.{width, offset, part, rising}
 use Rattle.format.proofs.Laws.Parts.{Node}
-use Rattle.format.proofs.Laws.Interpolative.{sinking}
+use Rattle.format.specs.Laws.Interpolative.{sinking}
 use Rattle.bits.specs.Cursor.{Within, Taken}
 use Rattle.bits.specs.declared.Cursor.{Cursor}
 use Rattle.reading.specs.Laws.Steps.{taken_bind, taken_only}

@@ -7,7 +7,8 @@ use Rattle.format.specs.Codes.{Word, delta}
 use Rattle.format.specs.Interpolative.{part, interpolative}
 use Rattle.format.specs.Reading.{below}
 use Rattle.format.proofs.Laws.Parts.{part_length}
-use Rattle.format.proofs.Laws.Interpolative.{NeverFalls, interpolative_never, sinking, length_sinking, last_and_others_lem}
+use Rattle.format.specs.Laws.Interpolative.{NeverFalls, sinking}
+use Rattle.format.proofs.Laws.Interpolative.{interpolative_never, length_sinking, last_and_others_lem}
 use Rattle.bits.specs.Cursor.{Within, Taken, Refuses}
 use Rattle.bits.specs.declared.BitPos.{BitPos}
 use Rattle.bits.specs.declared.Cursor.{Cursor}

@@ -1,7 +1,8 @@
 -- The sums of a part's instants.
 use Rattle.std.specs.Prelude.{◌≡◌, List, [], ◌∷◌, ◌++◌, ℕ, ◌+◌, ◌-◌, ◌≤◌, length, replicate}
 use Rattle.std.proofs.Common.{sym, ◌∙◌, subst, subst₂, arith}
-use Rattle.format.proofs.Laws.Interpolative.{sinking, length_sinking}
+use Rattle.format.specs.Laws.Interpolative.{sinking}
+use Rattle.format.proofs.Laws.Interpolative.{length_sinking}
 use Rattle.bits.specs.Cursor.{Within}
 use Rattle.equal_instants.specs.Sums.{Sums}
 use Rattle.equal_instants.specs.Laws.Sums.{sums_none, sums_middle}

@@ -4,7 +4,8 @@ use Rattle.std.proofs.Common.{sym, ap, ap₂, ◌∙◌, subst₂, arith, length
 use Rattle.std.proofs.lemmas.List.{map-append, length-map}
 use Rattle.std.proofs.lemmas.List.Edits.{sets, sets-eq}
 use Rattle.format.proofs.Laws.Parts.{part_length}
-use Rattle.format.proofs.Laws.Interpolative.{sinking, length_sinking}
+use Rattle.format.specs.Laws.Interpolative.{sinking}
+use Rattle.format.proofs.Laws.Interpolative.{length_sinking}
 use Rattle.bits.specs.Cursor.{Taken}
 use Rattle.bits.specs.declared.Cursor.{Cursor}
 use Rattle.reading.specs.Judging as Judging

@@ -3,7 +3,8 @@ use Rattle.std.specs.Prelude.{◌≡◌, refl, List, [], ◌∷◌, ◌++◌, �
 use Rattle.std.proofs.Common.{sym, ap, ap₂, ◌∙◌, arith}
 use Rattle.std.proofs.lemmas.List.Edits.{sets}
 use Rattle.std.proofs.lemmas.List.{set_comm}
-use Rattle.format.proofs.Laws.Interpolative.{sinking, length_sinking}
+use Rattle.format.specs.Laws.Interpolative.{sinking}
+use Rattle.format.proofs.Laws.Interpolative.{length_sinking}
 use Rattle.bits.specs.Cursor.{Within}
 use Rattle.read_middles.specs.Parts.{cursor, goes}
 use Rattle.read_middles.specs.Laws.Instants.{instants_middle}

@@ -5,17 +5,10 @@ use Rattle.std.proofs.Math.Nat.{mod-one, zero-div, add-mul-div_right, mul-add-mo
 use Rattle.std.proofs.Math.Pow.{high, split}
 use Rattle.std.proofs.lemmas.Nat.{mod-pow-add}
 use Rattle.layout.specs.Bits.{odd, in_bits, Bytes, bits_of, zeros}
+use Rattle.layout.specs.Laws.Bits.{num, val}
 use Rattle.layout.proofs.Laws.Beginnings.{Splits}
 
 -- ---- the number that bits stand for
-
-unfoldable pub num : Bool → ℕ
-num true = 1
-num false = 0
-
-unfoldable pub val : List Bool → ℕ
-val [] = 0
-val (b ∷ bs) = num b * 2 ^ length bs + val bs
 
 num_go : (m : ℕ) → m < 2 → num (eqb m 1) ≡ m
 unfolding num

@@ -4,7 +4,8 @@ use Rattle.std.proofs.Common.{sym, ap, ◌∙◌, subst, append_assoc, arith}
 use Rattle.std.proofs.Math.Decide.{dec_le}
 use Rattle.layout.specs.Layout.{Layout, Takes, Answer, taken, refused, Says, PrefixFree, word, short, fixed, known, first, second, bind, field, value, only, made, chain}
 use Rattle.layout.specs.Sound.{Total, Searchable}
-use Rattle.layout.proofs.Laws.Bits.{val, front_lt, front_is}
+use Rattle.layout.specs.Laws.Bits.{val}
+use Rattle.layout.proofs.Laws.Bits.{front_lt, front_is}
 use Rattle.layout.proofs.Laws.Words.{Decides, takes, fails, decides, fails_no}
 
 pub word_total : {A : Type 0} {ok : A → Type 0} (bits : A → List Bool) → PrefixFree ok bits → Searchable ok → (some : A) → ok some → Total (word ok bits)

@@ -3,7 +3,8 @@ use Rattle.std.specs.Prelude.{◌≡◌, Bool, List, [], ◌∷◌, ◌++◌, �
 use Rattle.std.proofs.Common.{sym, ap, ap₂, ◌∙◌, append_assoc, zero-add, zero-mul, suc-add, add-zero, add_assoc, lt_of_lt_of_le, arith, pow_mono, shr-shr, length-append, length-take, length-drop, take-append-drop, take-take, take-add, drop-drop, take_at, drop_at, length-take-le}
 use Rattle.std.proofs.Math.Seq.{take-nil, drop-append-add}
 use Rattle.layout.specs.Bits.{in_bits, zeros, put}
-use Rattle.layout.proofs.Laws.Bits.{val, val_lt, val_append, length_in_bits, in_bits_split, in_bits_cat, in_bits_mod, in_bits_zero}
+use Rattle.layout.specs.Laws.Bits.{val}
+use Rattle.layout.proofs.Laws.Bits.{val_lt, val_append, length_in_bits, in_bits_split, in_bits_cat, in_bits_mod, in_bits_zero}
 
 -- ---- written
 

@@ -8,7 +8,8 @@ use Rattle.std.proofs.Math.Arith.{digits_lt}
 use Rattle.std.proofs.Math.ListN.{length, drop}
 use Rattle.std.proofs.lemmas.List.{length-replicate, replicate-append-replicate}
 use Rattle.layout.specs.Bits.{in_bits, Bytes, bits_of, put, zeros}
-use Rattle.layout.proofs.Laws.Bits.{val, length_in_bits, in_bits_split, in_bits_cat, in_bits_mod, in_bits_zero, front_is, front_lt, val_in_bits, length_bits_of, bytes_one}
+use Rattle.layout.specs.Laws.Bits.{val}
+use Rattle.layout.proofs.Laws.Bits.{length_in_bits, in_bits_split, in_bits_cat, in_bits_mod, in_bits_zero, front_is, front_lt, val_in_bits, length_bits_of, bytes_one}
 use Rattle.layout.proofs.Laws.Windows.{put_nil, put_both, put_window, length_put, take_put, drop_put}
 use Rattle.format.specs.Limits.{longest_buffer}
 use Rattle.bits.specs.declared.BitPos.{BitPos}

@@ -5,7 +5,8 @@ use Rattle.layout.specs.Layout.{word, first}
 use Rattle.format.specs.Codes.{Word, delta}
 use Rattle.format.specs.Kinds.{natural}
 use Rattle.format.specs.Interpolative.{part, last_and_others}
-use Rattle.format.proofs.Laws.Interpolative.{sinking, last_and_others_lem}
+use Rattle.format.specs.Laws.Interpolative.{sinking}
+use Rattle.format.proofs.Laws.Interpolative.{last_and_others_lem}
 use Rattle.format.proofs.Laws.Codes.{delta_free}
 use Rattle.format.proofs.Laws.Bodies.{naturals_back}
 use Rattle.bits.specs.Cursor.{Within, Taken, Refuses}

@@ -1,7 +1,8 @@
 -- The instants that a part's elements stand for, the first of them at place `start`.
 use Rattle.std.specs.Prelude.{◌≡◌, List, ◌∷◌, ◌++◌, ℕ, suc, ◌+◌, ◌-◌, length}
 use Rattle.std.proofs.Common.{ap₂, ◌∙◌, arith}
-use Rattle.format.proofs.Laws.Interpolative.{sinking, sinking_append}
+use Rattle.format.specs.Laws.Interpolative.{sinking}
+use Rattle.format.proofs.Laws.Interpolative.{sinking_append}
 
 -- of a middle and of the elements on its two sides
 pub instants_middle : (start i x : ℕ) (ls rs : List ℕ) → length ls ≡ i

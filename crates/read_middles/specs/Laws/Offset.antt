@@ -3,7 +3,7 @@ use Rattle.std.specs.Prelude.{◌≡◌, refl, List, ℕ, ◌+◌, ◌-◌, ◌�
 use Rattle.std.proofs.Common.{◌∙◌, subst, inl, inr, arith}
 use Rattle.layout.specs.Bits.{bits_of}
 use Rattle.layout.specs.Layout.{fixed}
-use Rattle.layout.proofs.Laws.Bits.{val}
+use Rattle.layout.specs.Laws.Bits.{val}
 use Rattle.format.specs.Codes.{size}
 use Rattle.format.specs.Interpolative.{width, offset}
 use Rattle.format.proofs.Laws.Parts.{width_size}

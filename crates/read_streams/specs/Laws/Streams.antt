@@ -3,7 +3,8 @@ use Rattle.std.specs.Prelude.{◌≡◌, refl, List, ℕ, ◌+◌, ◌-◌, ◌�
 use Rattle.std.proofs.Common.{sym, ap, ap₂, ◌∙◌, subst, subst₂, le_refl, mod-eq_of_lt, pow_pos, arith, take_all}
 use Rattle.layout.specs.Bits.{bits_of, in_bits}
 use Rattle.layout.specs.Layout.{Layout}
-use Rattle.layout.proofs.Laws.Bits.{val, in_bits_val, in_bits_zero, val_in_bits}
+use Rattle.layout.specs.Laws.Bits.{val}
+use Rattle.layout.proofs.Laws.Bits.{in_bits_val, in_bits_zero, val_in_bits}
 use Rattle.format.specs.Records.{anyone, any_record}
 use Rattle.format.specs.Answers.{refuses, gives, told_bit}
 use Rattle.format.specs.Reading as Reading

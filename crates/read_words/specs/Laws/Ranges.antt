@@ -7,7 +7,8 @@ use Rattle.std.proofs.Math.Pow.{shr_mono, high}
 use Rattle.layout.specs.Bits.{odd, in_bits}
 use Rattle.layout.specs.Layout.{Stops, fixed}
 use Rattle.layout.specs.Dead.{Dies}
-use Rattle.layout.proofs.Laws.Bits.{val, val_lt, val_append, val_in_bits, in_bits_val, in_bits_split, in_bits_one, length_in_bits}
+use Rattle.layout.specs.Laws.Bits.{val}
+use Rattle.layout.proofs.Laws.Bits.{val_lt, val_append, val_in_bits, in_bits_val, in_bits_split, in_bits_one, length_in_bits}
 use Rattle.bits.specs.Cursor.{Within, left, onward, Taken}
 use Rattle.bits.specs.Laws.Cursor.{length_left, left_onward}
 use Rattle.bits.specs.declared.BitPos.{BitPos}

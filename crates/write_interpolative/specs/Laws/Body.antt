@@ -4,7 +4,8 @@ use Rattle.std.proofs.Common.{sym, ap, ap₂, ◌∙◌, subst, arith, length-ap
 use Rattle.format.specs.Limits.{largest_instant}
 use Rattle.format.specs.Codes.{delta}
 use Rattle.format.specs.Interpolative.{part, rising, interpolative}
-use Rattle.format.proofs.Laws.Interpolative.{NeverFalls, interpolative_holds}
+use Rattle.format.specs.Laws.Interpolative.{NeverFalls}
+use Rattle.format.proofs.Laws.Interpolative.{interpolative_holds}
 use Rattle.write_interpolative.specs.Parts.{elements, image, Body}
 
 pub body_none : (ts : List ℕ) → length ts ≡ 0 → (interpolative (length ts)).bits ts ≡ []

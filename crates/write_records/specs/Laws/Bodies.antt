@@ -9,7 +9,7 @@ use Rattle.format.specs.Kinds.{kind_number, natural, ListOf}
 use Rattle.format.specs.Records as Records
 use Rattle.format.specs.Records.{Valid, body}
 use Rattle.format.specs.Interpolative.{interpolative}
-use Rattle.format.proofs.Laws.Interpolative.{NeverFalls}
+use Rattle.format.specs.Laws.Interpolative.{NeverFalls}
 use Rattle.format.proofs.Laws.Bodies.{instants_never}
 use Rattle.headings.specs.declared.Code.{Code}
 use Rattle.headings.specs.declared.Code.TheVariants.{Gamma, Delta, Rice, VariableByte, Interpolative}

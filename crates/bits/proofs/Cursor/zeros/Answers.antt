@@ -1,5 +1,5 @@
 use Rattle.std.proofs.Common.{◌≡◌, sym, ap, ◌∙◌, le_refl, take, drop, arith, rules}
-use Rattle.layout.proofs.Laws.Bits.{val}
+use Rattle.layout.specs.Laws.Bits.{val}
 use Rattle.layout.proofs.Laws.Windows.{val_take_lt}
 use Rattle.bits.specs.Cursor.{left}
 use Rattle.bits.specs.Laws.Cursor.{length_left, left_part}

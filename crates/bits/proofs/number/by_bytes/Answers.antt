@@ -1,6 +1,6 @@
 use Rattle.std.proofs.Common.{◌≡◌, ◌∙◌, sym, ap, ap₂, refl, ℕ, ◌+◌, ◌*◌, ◌^◌, ◌≤◌, ◌<◌, take, drop, arith, rules}
 use Rattle.layout.specs.Bits.{bits_of}
-use Rattle.layout.proofs.Laws.Bits.{val}
+use Rattle.layout.specs.Laws.Bits.{val}
 use Rattle.layout.proofs.Laws.Bits.{length_bits_of}
 use Rattle.layout.proofs.Laws.Windows as laws
 use Rattle.bits.proofs.number.by_bytes.Goals as goal

@@ -1,6 +1,6 @@
 use Rattle.std.proofs.Common.{◌≡◌, ◌-◌, ◌≤◌, take, drop}
 use Rattle.layout.specs.Bits.{bits_of}
-use Rattle.layout.proofs.Laws.Bits.{val}
+use Rattle.layout.specs.Laws.Bits.{val}
 use Rattle.bits.proofs.number.by_bytes.Given as goal
 
 abbrev pub invariant-loop-done : goal.invariant-loop-done

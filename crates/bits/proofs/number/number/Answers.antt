@@ -1,6 +1,6 @@
 use Rattle.std.proofs.Common.{◌≡◌, ◌∙◌, ap, ℕ, ◌+◌, ◌-◌, ◌*◌, ◌/◌, ◌%◌, ◌^◌, take, drop, arith}
 use Rattle.layout.specs.Bits.{bits_of}
-use Rattle.layout.proofs.Laws.Bits.{val}
+use Rattle.layout.specs.Laws.Bits.{val}
 use Rattle.layout.proofs.Laws.Windows.{val_take_lt}
 use Rattle.bits.specs.Laws.Bytes.{from_window}
 use Rattle.bits.proofs.number.number.Goals as goal

@@ -1,5 +1,5 @@
 use Rattle.std.proofs.Common.{add-zero, refl, sym, ap, ◌∙◌, ℕ, ◌+◌, ◌*◌, ◌≤◌, ◌<◌, length, get_or, arith}
-use Rattle.layout.proofs.Laws.Bits.{val}
+use Rattle.layout.specs.Laws.Bits.{val}
 use Rattle.bits.specs.Laws.Bytes.{byte_joined}
 use Rattle.bits.proofs.number.window.Goals as goal
 

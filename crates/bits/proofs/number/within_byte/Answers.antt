@@ -1,6 +1,6 @@
 use Rattle.std.proofs.Common.{◌≡◌, ◌∙◌, sym, ap, ℕ, ◌+◌, ◌-◌, ◌*◌, ◌/◌, ◌%◌, ◌^◌, take, drop, get_or, arith}
 use Rattle.layout.specs.Bits.{bits_of}
-use Rattle.layout.proofs.Laws.Bits.{val}
+use Rattle.layout.specs.Laws.Bits.{val}
 use Rattle.layout.proofs.Laws.Bits as laws
 use Rattle.bits.specs.Laws.Bytes.{chunk_read}
 use Rattle.bits.proofs.number.within_byte.Goals as goal

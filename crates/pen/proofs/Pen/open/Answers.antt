@@ -1,6 +1,6 @@
 use Rattle.std.proofs.Common.{ap, ◌∙◌, ℕ, ◌%◌, take, drop}
 use Rattle.layout.specs.Bits.{bits_of}
-use Rattle.layout.proofs.Laws.Bits.{val}
+use Rattle.layout.specs.Laws.Bits.{val}
 use Rattle.pen.specs.Pen.{first_of}
 use Rattle.pen.specs.Laws.Pen.{opened}
 use Rattle.pen.proofs.Pen.open.Goals as goal
