@@ -10,7 +10,7 @@ help:
 	@echo 'make examples  two saves in one second, written and read back from C, Rust and Python: examples/'
 	@echo 'make compare   run the writers and readers against the second program, tests/second; SEED=N: its random cases'
 	@echo 'make bench     time the library beside plain Rust, tests/bench, as ratios'
-	@echo 'make sizes     the crates by lines and seconds of check: the table of docs/ARCHITECTURE.md'
+	@echo 'make sizes     the crates by lines: the table of docs/ARCHITECTURE.md'
 
 test:
 	@.ci/run
