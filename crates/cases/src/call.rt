@@ -1,165 +1,149 @@
 // The entries, called with a case's numbers, bytes and list.
 ghost use Rattle.std.specs.Prelude.{◌≤◌, length};
 
+use crate::entry::Entry;
+use crate::memory::ROOM;
 use crate::{memory, say, words};
 use bits::BitPos;
+use moortangle::{end, find, record, stream};
 use std::io;
 
-// The numbers of a case, and those that may be positions or a place as such.
-#[derive(Clone, Copy)]
-struct Numbers {
-    first: u32,
-    second: u32,
-    third: u32,
-    fourth: u32,
-    start: BitPos,
-    stop: BitPos,
-    place: usize,
-}
-
-// A number that is a position or a place: -1 is the largest that there is.
-fn position(n: u32) -> usize {
-    if n == 4294967295 {
-        return 18446744073709551615;
+// A number that is a place: -1 is the largest that there is.
+fn place(n: u32) -> usize {
+    if n == u32::MAX {
+        return usize::MAX;
     }
     n as usize
 }
 
-impl Numbers {
-    fn of(n: [u32; 5]) -> Numbers {
-        Numbers {
-            first: n[0],
-            second: n[1],
-            third: n[2],
-            fourth: n[3],
-            start: BitPos::new(position(n[0])),
-            stop: BitPos::new(position(n[1])),
-            place: position(n[2]),
-        }
-    }
+fn bit(n: u32) -> BitPos {
+    BitPos::new(place(n))
 }
 
-fn write_corrections(rt: &impl Print, n: Numbers, buf: &mut [u8], list: &[u32]) -> io::Result<()>
-    requires { length list.now ≤ 65538 }
+// A list written, and the bytes after it.
+fn write(
+    rt: &impl Print,
+    start: BitPos,
+    code: u32,
+    parameter: u32,
+    kind: u32,
+    buf: &mut [u8],
+    list: &[u32],
+) -> io::Result<()> {
+    say::wrote(rt, record::write(buf, start, code, parameter, kind, list))?;
+    say::bytes(rt, buf)
+}
+
+fn write_corrections(
+    rt: &impl Print,
+    start: BitPos,
+    code: u32,
+    parameter: u32,
+    kind: u32,
+    buf: &mut [u8],
+    list: &[u32],
+) -> io::Result<()>
+    requires { length list.now ≤ 65537 }
 {
-    let start = n.start;
-    let mut signed = memory::signed_list();
-    let count = list.len();
-    memory::corrections(list, &mut signed);
-    let wrote = moortangle::record::write_corrections(
-        buf,
-        start,
-        n.second,
-        n.third,
-        n.fourth,
-        &signed[..count],
-    );
-    say::wrote(rt, wrote)
+    let mut own = [0i32; ROOM];
+    memory::corrections(list, &mut own);
+    let signed = &own[..list.len()];
+    say::wrote(
+        rt,
+        record::write_corrections(buf, start, code, parameter, kind, signed),
+    )?;
+    say::bytes(rt, buf)
 }
 
-// The entries that may change the bytes.
-fn write(rt: &impl Print, entry: usize, n: Numbers, buf: &mut [u8], list: &[u32]) -> io::Result<()>
-    requires { length list.now ≤ 65538 }
-{
-    let start = n.start;
-    match entry {
-        0 => say::wrote(
-            rt,
-            moortangle::record::write(buf, start, n.second, n.third, n.fourth, list),
-        ),
-        1 => write_corrections(rt, n, buf, list),
-        2 => say::wrote(rt, moortangle::end::write_end(buf, start)),
-        3 => words::write(rt, start, n.second, n.third, n.fourth, buf),
-        _ => Ok(()),
-    }
+fn write_end(rt: &impl Print, start: BitPos, buf: &mut [u8]) -> io::Result<()> {
+    say::wrote(rt, end::write_end(buf, start))?;
+    say::bytes(rt, buf)
 }
 
-fn read_signed(
+fn write_word(
+    rt: &impl Print,
+    start: BitPos,
+    code: u32,
+    k: u32,
+    word: u32,
+    buf: &mut [u8],
+) -> io::Result<()> {
+    words::write(rt, start, code, k, word, buf)?;
+    say::bytes(rt, buf)
+}
+
+// A list read, and all of it after that.
+fn read(
     rt: &impl Print,
     start: BitPos,
     stop: BitPos,
     kind: u32,
     s: &[u8],
-    list: &mut [i32],
+    list: &mut [u32],
 ) -> io::Result<()> {
-    say::read(
-        rt,
-        moortangle::record::read_corrections(s, start, stop, kind, list),
-    )?;
-    say::corrections(rt, list)
+    say::read(rt, record::read(s, start, stop, kind, list))?;
+    say::values(rt, list)
 }
 
-// Corrections are read into a list of their own, and that is printed.
-fn read_corrections(rt: &impl Print, n: Numbers, s: &[u8], list: &[u32]) -> io::Result<()>
-    requires { length list.now ≤ 65538 }
+// Corrections are read into a list of their own.
+fn read_corrections(
+    rt: &impl Print,
+    start: BitPos,
+    stop: BitPos,
+    kind: u32,
+    s: &[u8],
+    list: &[u32],
+) -> io::Result<()>
+    requires { length list.now ≤ 65537 }
 {
-    let start = n.start;
-    let stop = n.stop;
-    let mut signed = memory::signed_list();
-    let count = list.len();
-    memory::corrections(list, &mut signed);
-    read_signed(rt, start, stop, n.third, s, &mut signed[..count])
+    let mut own = [0i32; ROOM];
+    memory::corrections(list, &mut own);
+    let signed = &mut own[..list.len()];
+    say::read(rt, record::read_corrections(s, start, stop, kind, signed))?;
+    say::corrections(rt, signed)
 }
 
-// The entries that may change the list.
-fn read(rt: &impl Print, entry: usize, n: Numbers, s: &[u8], list: &mut [u32]) -> io::Result<()>
-    requires { length list.old ≤ 65538 }
-{
-    let start = n.start;
-    let stop = n.stop;
-    match entry {
-        4 => say::read(rt, moortangle::record::read(s, start, stop, n.third, list)),
-        5 => read_corrections(rt, n, s, list),
-        _ => Ok(()),
-    }
-}
-
-// The entries that change nothing.
-fn look(rt: &impl Print, entry: usize, n: Numbers, s: &[u8]) -> io::Result<()> {
-    let start = n.start;
-    let stop = n.stop;
-    match entry {
-        6 => words::read(rt, start, stop, n.third, n.fourth, s),
-        7 => say::looked_up(
-            rt,
-            moortangle::find::look_up(s, start, stop, n.fourth, n.place),
-        ),
-        8 => say::looked_up_correction(
-            rt,
-            moortangle::find::look_up_correction(s, start, stop, n.fourth, n.place),
-        ),
-        9 => say::searched(rt, moortangle::find::search(s, start, stop, n.third)),
-        10 => say::checked(rt, moortangle::stream::check(s)),
-        11 => words::count(rt, n.first, n.second, n.third),
-        12 => say::not_a_case(rt),
-        _ => Ok(()),
-    }
-}
-
-// Lent memory that an entry may have changed.
-fn memory_after(rt: &impl Print, entry: usize, buf: &[u8], list: &[u32]) -> io::Result<()>
-    requires { length buf.now ≤ 65538 }
-{
-    match entry {
-        0..=3 => say::bytes(rt, buf),
-        4 => say::items(rt, list, 10),
-        _ => Ok(()),
-    }
-}
-
-// Of the first three one knows the entry.
+// What comes back, and then the lent memory that an entry may have changed.
 pub(crate) fn call(
     rt: &impl Print,
-    entry: usize,
-    given: [u32; 5],
+    entry: Entry,
+    numbers: &[u32],
     buf: &mut [u8],
     list: &mut [u32],
 ) -> io::Result<()>
-    requires { (length buf.old ≤ 65538) × (length list.old ≤ 65538) }
+    requires { length list.old ≤ 65537 }
 {
-    let n = Numbers::of(given);
-    write(rt, entry, n, buf, list)?;
-    read(rt, entry, n, buf, list)?;
-    look(rt, entry, n, buf)?;
-    memory_after(rt, entry, buf, list)
+    match (entry, numbers) {
+        (Entry::Write, &[start, code, parameter, kind]) => {
+            write(rt, bit(start), code, parameter, kind, buf, list)
+        }
+        (Entry::WriteCorrections, &[start, code, parameter, kind]) => {
+            write_corrections(rt, bit(start), code, parameter, kind, buf, list)
+        }
+        (Entry::WriteEnd, &[start]) => write_end(rt, bit(start), buf),
+        (Entry::WriteWord, &[start, code, k, word]) => {
+            write_word(rt, bit(start), code, k, word, buf)
+        }
+        (Entry::Read, &[start, stop, kind]) => read(rt, bit(start), bit(stop), kind, buf, list),
+        (Entry::ReadCorrections, &[start, stop, kind]) => {
+            read_corrections(rt, bit(start), bit(stop), kind, buf, list)
+        }
+        (Entry::ReadWord, &[start, stop, code, k]) => {
+            words::read(rt, bit(start), bit(stop), code, k, buf)
+        }
+        (Entry::LookUp, &[start, stop, n, kind]) => say::answer(
+            rt,
+            find::look_up(buf, bit(start), bit(stop), kind, place(n)),
+        ),
+        (Entry::LookUpCorrection, &[start, stop, n, kind]) => say::answer(
+            rt,
+            find::look_up_correction(buf, bit(start), bit(stop), kind, place(n)),
+        ),
+        (Entry::Search, &[start, stop, sought]) => {
+            say::answer(rt, find::search(buf, bit(start), bit(stop), sought))
+        }
+        (Entry::Check, &[]) => say::checked(rt, stream::check(buf)),
+        (Entry::CountWord, &[code, k, word]) => words::count(rt, code, k, word),
+        _ => say::not_a_case(rt),
+    }
 }

@@ -1,50 +1,40 @@
 // A line that is a case: taken apart, called, and what comes back.
-ghost use Rattle.std.specs.Prelude.{◌≤◌, length};
-
-use crate::{call, entry, memory, say, scan};
+use crate::entry::Entry;
+use crate::item::Base;
+use crate::memory::ROOM;
+use crate::{call, item, memory, say};
 use std::io;
 
-// Where the part of a line that begins at a place ends: at the next bar, or with the line.
-fn end(line: &[u8], at: usize) -> usize
-    requires { at ≤ length line.now }
-    ensures { (at ≤ result) × (result ≤ length line.now) }
-{
-    if at == line.len() {
-        return at;
-    }
-    scan::find(line, at + 1, line.len(), b'|')
+// A line in two at the first of a byte, and all of it before that if there is none.
+fn cut(line: &[u8], by: u8) -> (&[u8], &[u8]) {
+    let mut parts = line.splitn(2, |&b| b == by);
+    (parts.next().unwrap_or(line), parts.next().unwrap_or(&[]))
 }
 
-// The numbers after the name, the bytes after a bar, and the list after another.
-fn case(rt: &impl Print, line: &[u8], name: usize) -> io::Result<()>
-    requires { name ≤ length line.now }
-{
-    let mut n = [0u32; 5];
-    let mut list = memory::list();
-    let mut buf = memory::buffer();
-    let first = end(line, name);
-    let second = end(line, first);
-    let given = scan::items(line, name, first, 10, &mut n);
-    let size = scan::items(line, first, second, 16, &mut list);
-    memory::narrow(&list, &mut buf);
-    let count = scan::items(line, second, line.len(), 10, &mut list);
-    let entry = entry::fitting(entry::numbered(line, name), given, size, count);
-    call::call(rt, entry, n, &mut buf[..size], &mut list[..count])
+// The name of an entry, the numbers after it, and what is lent: the bytes after a bar, and the list after another.
+fn run(rt: &impl Print, line: &[u8]) -> Option<io::Result<()>> {
+    let (name, given) = cut(line, b' ');
+    let (numbers, lent) = cut(given, b'|');
+    let (bytes, values) = cut(lent, b'|');
+    let mut n = [0u32; 4];
+    let mut list = [0u32; ROOM];
+    let mut buf = [0u8; ROOM];
+    let entry = Entry::named(name)?;
+    let given = item::items(numbers, Base::Ten, &mut n)?;
+    let size = item::items(bytes, Base::Sixteen, &mut list)?;
+    memory::narrow(&list[..size], &mut buf);
+    let count = item::items(values, Base::Ten, &mut list)?;
+    Some(call::call(rt, entry, &n[..given], &mut buf[..size], &mut list[..count]))
 }
 
-// A line for the reader alone.
-fn is_remark(line: &[u8]) -> bool {
-    if line.len() == 0 {
-        return true;
-    }
-    line[0] == b'#'
-}
-
-// What comes after the line itself.
+// What comes after the line itself. An empty line and a remark are for the reader alone.
 pub(crate) fn answer(rt: &impl Print, line: &[u8]) -> io::Result<()> {
-    if is_remark(line) {
+    if line.is_empty() || line.starts_with(b"#") {
         return Ok(());
     }
     say::text(rt, b" =")?;
-    case(rt, line, scan::find(line, 0, line.len(), b' '))
+    match run(rt, line) {
+        Some(done) => done,
+        None => say::not_a_case(rt),
+    }
 }

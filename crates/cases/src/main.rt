@@ -2,49 +2,26 @@
 // with the file stdout.
 #![tactic(auto)]
 
-ghost use Rattle.std.specs.Prelude.{◌<◌, ◌≤◌, length, take, IfOk};
-ghost use Rattle.std.specs.Io.KnownBytes.{Consumes, IsAtEnd};
-
+use inputs::read_full;
 use std::io;
-use std::io::Read;
 
 mod call;
 mod case;
 mod entry;
+mod item;
 mod memory;
 mod say;
-mod scan;
 mod words;
 
 // Each line, and what comes back of it.
 fn lines(rt: &impl Print, text: &[u8]) -> io::Result<()> {
-    let mut at = 0;
-    while at < text.len() {
-        let end = scan::find(text, at, text.len(), b'\n');
-        let line = &text[at..end];
+    for ended in text.split_inclusive(|&b| b == b'\n') {
+        let line = ended.strip_suffix(b"\n").unwrap_or(ended);
         say::text(rt, line)?;
         case::answer(rt, line)?;
         say::text(rt, b"\n")?;
-        at = end + 1;
     }
     Ok(())
-}
-
-// What an input has, up to as many bytes as there is room for: how many those are.
-fn read_full<R: Read>(input: &mut R, room: &mut [u8]) -> io::Result<usize>
-    ensures within { IfOk result (λ n. n ≤ length room.new) }
-    ensures bytes { IfOk result (λ n. Consumes (R.remaining input.old) (R.remaining input.new) (take n room.new)) }
-    ensures whole { IfOk result (λ n. n < length room.new → IsAtEnd (R.remaining input.new)) }
-{
-    let mut count = 0;
-    while count < room.len() {
-        let more = input.read(&mut room[count..])?;
-        if more == 0 {
-            break;
-        }
-        count += more;
-    }
-    Ok(count)
 }
 
 fn main(rt: HostRuntime) -> io::Result<()> {

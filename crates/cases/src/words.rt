@@ -1,43 +1,35 @@
 // Single words, by code. The library asks its caller for what is tested here first.
-ghost use Rattle.headings.specs.Bodies.{Known};
-
 use crate::say;
 use bits::{BitPos, Cursor};
-use headings::bodies::Words;
+use headings::bodies::{Parameter, Words};
+use limits::{LARGEST_PARAMETER, LONGEST_BUFFER};
 use pen::Pen;
-use read_words::Read;
+use read_words::NoWord;
 use std::io;
+use write_words::by_code;
 
-fn is_code(code: u32, k: u32) -> bool {
-    if 31 < k {
-        return false;
+fn words(code: u32, k: u32) -> Option<Words> {
+    if LARGEST_PARAMETER < k {
+        return None;
     }
-    if code == 0 {
-        return false;
-    }
-    code < 5
-}
-
-fn words(code: u32, k: u32) -> Words
-    ensures { Known result }
-{
     match code {
-        1 => Words::Gamma,
-        2 => Words::Delta,
-        3 => Words::Rice((k % 32) as usize),
-        _ => Words::VariableByte,
+        1 => Some(Words::Gamma),
+        2 => Some(Words::Delta),
+        3 => Some(Words::Rice(Parameter::new(k as usize))),
+        4 => Some(Words::VariableByte),
+        _ => None,
     }
 }
 
 // A word that is cut short tells no bit.
-fn said(rt: &impl Print, r: Read) -> io::Result<()> {
+fn said(rt: &impl Print, r: Result<(u32, Cursor), NoWord>) -> io::Result<()> {
     match r {
-        Read::Took(w, next) => {
+        Ok((w, next)) => {
             say::told(rt, 0, next.at().bit())?;
-            say::spaced(rt, w as usize)
+            say::spaced(rt, w)
         }
-        Read::Cut => say::spaced(rt, 6),
-        Read::Bad(at) => say::told(rt, 9, at.bit()),
+        Err(NoWord::Cut) => say::spaced(rt, 6),
+        Err(NoWord::Bad(at)) => say::told(rt, 9, at.bit()),
     }
 }
 
@@ -49,36 +41,20 @@ pub(crate) fn read(
     k: u32,
     s: &[u8],
 ) -> io::Result<()> {
-    if 65536 < s.len() {
+    let Some(by) = words(code, k) else {
         return say::not_a_case(rt);
-    }
-    if stop.bit() < start.bit() {
-        return say::not_a_case(rt);
-    }
-    if 8 * s.len() < stop.bit() {
-        return say::not_a_case(rt);
-    }
-    if !is_code(code, k) {
-        return say::not_a_case(rt);
-    }
-    let c = Cursor::new(start, stop);
-    let r = match code {
-        1 => read_words::gamma::read(c, s),
-        2 => read_words::delta::read(c, s),
-        3 => read_words::rice::read(c, s, (k % 32) as usize),
-        _ => read_words::variable_byte::read(c, s),
     };
-    said(rt, r)
+    if LONGEST_BUFFER < s.len() || stop.bit() < start.bit() || 8 * s.len() < stop.bit() {
+        return say::not_a_case(rt);
+    }
+    said(rt, read_any_word::word(Cursor::new(start, stop), s, by))
 }
 
 pub(crate) fn count(rt: &impl Print, code: u32, k: u32, w: u32) -> io::Result<()> {
-    if !is_code(code, k) {
-        return say::not_a_case(rt);
+    match words(code, k) {
+        Some(by) if w != 0 => say::spaced(rt, by_code::count(by, w)),
+        _ => say::not_a_case(rt),
     }
-    if w == 0 {
-        return say::not_a_case(rt);
-    }
-    say::spaced(rt, write_words::by_code::count(words(code, k), w) as usize)
 }
 
 pub(crate) fn write(
@@ -89,23 +65,18 @@ pub(crate) fn write(
     w: u32,
     buf: &mut [u8],
 ) -> io::Result<()> {
-    if !is_code(code, k) {
+    let Some(by) = words(code, k) else {
+        return say::not_a_case(rt);
+    };
+    if w == 0 || LONGEST_BUFFER < buf.len() || 8 * buf.len() < start.bit() {
         return say::not_a_case(rt);
     }
-    if w == 0 {
-        return say::not_a_case(rt);
-    }
-    if 65536 < buf.len() {
-        return say::not_a_case(rt);
-    }
-    if 8 * buf.len() < start.bit() {
-        return say::not_a_case(rt);
-    }
-    let by = words(code, k);
-    if ((8 * buf.len() - start.bit()) as u64) < write_words::by_code::count(by, w) {
+    // a copy for the call, as `Words` says
+    let counted = by;
+    if ((8 * buf.len() - start.bit()) as u64) < by_code::count(counted, w) {
         return say::not_a_case(rt);
     }
     let pen = Pen::open(buf, start);
-    let after = write_words::by_code::write(buf, pen, by, w);
+    let after = by_code::write(buf, pen, by, w);
     say::told(rt, 0, after.close(buf).bit())
 }

@@ -1,5 +1,5 @@
 -- Calls of the entries, one after the other, as a caller makes them.
-use Rattle.std.specs.Prelude.{◌≡◌, true, false, List, [], ◌∷◌, ◌++◌, ℕ, zero, suc, ◌+◌, ◌≤◌, ltb, ℤ, length, drop}
+use Rattle.std.specs.Prelude.{◌≡◌, true, false, Result, Ok, List, [], ◌∷◌, ◌++◌, ℕ, zero, suc, ◌+◌, ◌≤◌, ltb, ℤ, length, drop}
 use Rattle.format.specs.Kinds.{Kind, Family}
 use Rattle.format.specs.Records.{Rice, code_number, Record}
 use Rattle.format.specs.Answers.{gives, Told}
@@ -8,9 +8,9 @@ use Rattle.format.specs.Writing.{Writes}
 use Rattle.format.specs.Restated.{Holds}
 use Rattle.bits.specs.declared.BitPos.{BitPos}
 use Rattle.read_records.specs.Told.{item_of}
-use Rattle.read_records.specs.declared.Read.{Read}
-use Rattle.read_records.specs.declared.Read.TheVariants.{End}
-use Rattle.writing.specs.declared.Wrote.TheVariants.{Done}
+use Rattle.reading.specs.declared.Refused.{Refused}
+use Rattle.read_records.specs.declared.Found.{Found}
+use Rattle.read_records.specs.declared.Found.TheVariants.{End}
 use Rattle.read_entries.specs.Reads.{ReadsInto}
 use Rattle.writing.specs.Wrote.{outcome_of}
 
@@ -26,7 +26,7 @@ pub record Call : Type 0 where
 pub data WrittenInTurn : List Call → (bytes : List ℕ) (start : ℕ) (after : List ℕ) (next : ℕ) → Type 0 where
   none : {bytes : List ℕ} {start : ℕ} → WrittenInTurn [] bytes start bytes start
   then : {q : Call} {qs : List Call} {bytes middle after : List ℕ} {start next : ℕ} (p : BitPos)
-      → Writes bytes start q.family q.code q.parameter q.kind q.values (outcome_of (Done p)) middle → WrittenInTurn qs middle p.0 after next
+      → Writes bytes start q.family q.code q.parameter q.kind q.values (outcome_of (Ok p)) middle → WrittenInTurn qs middle p.0 after next
       → WrittenInTurn (q ∷ qs) bytes start after next
 
 -- two calls ask for the same record: "in code, kind, parameter, number, order and every value"; a parameter counts for Rice alone
@@ -56,7 +56,7 @@ values_of [] = 0
 values_of (q ∷ qs) = length q.values + values_of qs
 
 -- a list that was written comes back with its code, kind and parameter, in front of a lent list, and p is the bit after it
-pub record Back (code parameter kind : ℕ) (values old : List ℤ) (p : ℕ) (r : Read) (new : List ℤ) : Type 0 where
+pub record Back (code parameter kind : ℕ) (values old : List ℤ) (p : ℕ) (r : Result Found Refused) (new : List ℤ) : Type 0 where
   pub entry : Record
   pub holds : Holds entry code parameter kind values
   pub answer : item_of r new ≡ gives (listed entry p)
@@ -66,10 +66,10 @@ pub record Back (code parameter kind : ℕ) (values old : List ℤ) (p : ℕ) (r
 -- room, and then whoever asks for a kind of his entry is told the end
 abbrev pub ReadInTurn : List ℕ → ℕ → List Call → ℕ → Type 0
 ReadInTurn bytes stop [] at =
-    (f : Family) (kind : ℕ) (t : Kind) → Told f kind t → (old new : List ℤ) (r : Read) → ReadsInto bytes at stop f kind old r new → (r ≡ End (record { 0 = at + 4 })) × (new ≡ old)
+    (f : Family) (kind : ℕ) (t : Kind) → Told f kind t → (old new : List ℤ) (r : Result Found Refused) → ReadsInto bytes at stop f kind old r new → (r ≡ Ok (End (record { 0 = at + 4 }))) × (new ≡ old)
 ReadInTurn bytes stop (q ∷ qs) at =
     (p : ℕ)
-    × ((old new : List ℤ) (r : Read) → length q.values ≤ length old → ReadsInto bytes at stop q.family q.kind old r new → Back q.code q.parameter q.kind q.values old p r new)
+    × ((old new : List ℤ) (r : Result Found Refused) → length q.values ≤ length old → ReadsInto bytes at stop q.family q.kind old r new → Back q.code q.parameter q.kind q.values old p r new)
     × ReadInTurn bytes stop qs p
 
 -- of the first n places, how many have a number below the one sought

@@ -9,11 +9,10 @@ ghost use Rattle.flat_answers.specs.Flat.{flat_written, flat_value, flat_correct
 ghost use Rattle.flat_answers.specs.Reads.{FewValues, flat_read};
 
 use bits::BitPos;
-use find_in_records::{LookedUp, LookedUpCorrection, Searched};
-use headings::Heading;
-use read_records::Read;
+use read_records::Found;
 use read_streams::Checked;
-use writing::Wrote;
+use reading::Refused;
+use writing::Unwritten;
 
 // What a writer answers: document 01's number, and what it tells.
 #[repr(C)]
@@ -36,6 +35,7 @@ pub struct Record {
     pub count: u32,
 }
 
+// C has no generic struct and no Result: so each family has its own, and every answer its number in a field.
 #[repr(C)]
 #[derive(Clone, Copy)]
 pub struct Value {
@@ -69,39 +69,41 @@ pub struct Stream {
     pub values: u64,
 }
 
-pub fn written_of(answer: Wrote) -> Written
-    ensures { result ≡ flat_written (outcome_of answer) }
-{
-    match answer {
-        Wrote::Done(after) => Written {
-            answer: 0,
-            told: after.bit() as u64,
-        },
-        Wrote::TooMany => Written { answer: 1, told: 0 },
-        Wrote::OutOfRange(place) => Written {
-            answer: 2,
-            told: place as u64,
-        },
-        Wrote::Falls(place) => Written {
-            answer: 3,
-            told: place as u64,
-        },
-        Wrote::Unknown => Written { answer: 4, told: 0 },
-        Wrote::Full => Written { answer: 5, told: 0 },
-        Wrote::Outside => Written {
-            answer: 12,
-            told: 0,
-        },
+impl From<Result<BitPos, Unwritten>> for Written {
+    ghost from_gives = { λ answer flat. flat ≡ flat_written (outcome_of answer) };
+
+    fn from(answer: Result<BitPos, Unwritten>) -> Written {
+        match answer {
+            Ok(after) => Written {
+                answer: 0,
+                told: after.bit() as u64,
+            },
+            Err(Unwritten::TooMany) => Written { answer: 1, told: 0 },
+            Err(Unwritten::OutOfRange(place)) => Written {
+                answer: 2,
+                told: place as u64,
+            },
+            Err(Unwritten::Falls(place)) => Written {
+                answer: 3,
+                told: place as u64,
+            },
+            Err(Unwritten::Unknown) => Written { answer: 4, told: 0 },
+            Err(Unwritten::Full) => Written { answer: 5, told: 0 },
+            Err(Unwritten::Outside) => Written {
+                answer: 12,
+                told: 0,
+            },
+        }
     }
 }
 
-// A record has at most 4,096 values, so that its count is a u32.
-pub fn record_of(answer: Read) -> Record
+// A record has at most 4,096 values, so that its count is a u32. No `From` may ask this of an answer.
+pub fn record_of(answer: Result<Found, Refused>) -> Record
     requires { FewValues answer }
     ensures { result ≡ flat_read answer }
 {
     match answer {
-        Read::Record(h, n, next) => {
+        Ok(Found::Record(h, n, next)) => {
             let code = h.code;
             let kind = h.kind;
             Record {
@@ -109,12 +111,12 @@ pub fn record_of(answer: Read) -> Record
                 told: next.bit() as u64,
                 end: 0,
                 code: headings::code_number(code),
-                kind: headings::kind_number(kind),
+                kind: u32::from(kind),
                 parameter: headings::parameter(code),
                 count: n as u32,
             }
         }
-        Read::End(next) => Record {
+        Ok(Found::End(next)) => Record {
             answer: 0,
             told: next.bit() as u64,
             end: 1,
@@ -123,9 +125,9 @@ pub fn record_of(answer: Read) -> Record
             parameter: 0,
             count: 0,
         },
-        Read::Refused(m, p) => Record {
-            answer: reading::number(m),
-            told: p.bit() as u64,
+        Err(refused) => Record {
+            answer: u32::from(refused.why),
+            told: refused.at.bit() as u64,
             end: 0,
             code: 0,
             kind: 0,
@@ -135,72 +137,80 @@ pub fn record_of(answer: Read) -> Record
     }
 }
 
-pub fn value_of(answer: LookedUp) -> Value
-    ensures { result ≡ flat_value (looked_up answer) }
-{
-    match answer {
-        LookedUp::Value(v) => Value {
-            answer: 0,
-            told: 0,
-            value: v,
-        },
-        LookedUp::Refused(m, p) => Value {
-            answer: reading::number(m),
-            told: p.bit() as u64,
-            value: 0,
-        },
+impl From<Result<u32, Refused>> for Value {
+    ghost from_gives = { λ answer flat. flat ≡ flat_value (looked_up answer) };
+
+    fn from(answer: Result<u32, Refused>) -> Value {
+        match answer {
+            Ok(value) => Value {
+                answer: 0,
+                told: 0,
+                value,
+            },
+            Err(refused) => Value {
+                answer: u32::from(refused.why),
+                told: refused.at.bit() as u64,
+                value: 0,
+            },
+        }
     }
 }
 
-pub fn correction_of(answer: LookedUpCorrection) -> Correction
-    ensures { result ≡ flat_correction (looked_up_correction answer) }
-{
-    match answer {
-        LookedUpCorrection::Value(v) => Correction {
-            answer: 0,
-            told: 0,
-            value: v,
-        },
-        LookedUpCorrection::Refused(m, p) => Correction {
-            answer: reading::number(m),
-            told: p.bit() as u64,
-            value: 0,
-        },
+impl From<Result<i32, Refused>> for Correction {
+    ghost from_gives = { λ answer flat. flat ≡ flat_correction (looked_up_correction answer) };
+
+    fn from(answer: Result<i32, Refused>) -> Correction {
+        match answer {
+            Ok(value) => Correction {
+                answer: 0,
+                told: 0,
+                value,
+            },
+            Err(refused) => Correction {
+                answer: u32::from(refused.why),
+                told: refused.at.bit() as u64,
+                value: 0,
+            },
+        }
     }
 }
 
-pub fn place_of(answer: Searched) -> Place
-    ensures { result ≡ flat_place (searched answer) }
-{
-    match answer {
-        Searched::Below(n) => Place {
-            answer: 0,
-            told: 0,
-            below: n as u64,
-        },
-        Searched::Refused(m, p) => Place {
-            answer: reading::number(m),
-            told: p.bit() as u64,
-            below: 0,
-        },
+impl From<Result<usize, Refused>> for Place {
+    ghost from_gives = { λ answer flat. flat ≡ flat_place (searched answer) };
+
+    fn from(answer: Result<usize, Refused>) -> Place {
+        match answer {
+            Ok(below) => Place {
+                answer: 0,
+                told: 0,
+                below: below as u64,
+            },
+            Err(refused) => Place {
+                answer: u32::from(refused.why),
+                told: refused.at.bit() as u64,
+                below: 0,
+            },
+        }
     }
 }
 
-pub fn stream_of(answer: Checked) -> Stream
-    ensures { result ≡ flat_stream (checked answer) }
-{
-    match answer {
-        Checked::Stream(records, values) => Stream {
-            answer: 0,
-            told: 0,
-            records: records as u64,
-            values: values as u64,
-        },
-        Checked::Refused(m, p) => Stream {
-            answer: reading::number(m),
-            told: p.bit() as u64,
-            records: 0,
-            values: 0,
-        },
+impl From<Result<Checked, Refused>> for Stream {
+    ghost from_gives = { λ answer flat. flat ≡ flat_stream (checked answer) };
+
+    fn from(answer: Result<Checked, Refused>) -> Stream {
+        match answer {
+            Ok(found) => Stream {
+                answer: 0,
+                told: 0,
+                records: found.records as u64,
+                values: found.values as u64,
+            },
+            Err(refused) => Stream {
+                answer: u32::from(refused.why),
+                told: refused.at.bit() as u64,
+                records: 0,
+                values: 0,
+            },
+        }
     }
 }

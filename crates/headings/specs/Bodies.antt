@@ -1,17 +1,15 @@
 -- How the list after a heading is laid out.
-use Rattle.std.specs.Prelude.{◌≡◌, Bool, false, List, ℕ, ◌≤◌}
+use Rattle.std.specs.Prelude.{◌≡◌, Option, Some, None, Bool, true, false, List, ℕ, ◌≤◌}
 use Rattle.format.specs.Limits.{largest_parameter}
 use Rattle.format.specs.Codes.{gamma, delta, rice, variable_byte}
+use Rattle.format.specs.Kinds as Kinds
 use Rattle.format.specs.Kinds.{Unsigned, Signed, family_of}
-use Rattle.lists.specs.Judged.{unsigned_kind}
 use Rattle.headings.specs.Headings.{kind_of}
 use Rattle.headings.specs.declared.Code.{Code}
 use Rattle.headings.specs.declared.Code.TheVariants as OfCode
 use Rattle.headings.specs.declared.Kind.{Kind}
 use Rattle.headings.specs.declared.bodies.Words.{Words}
 use Rattle.headings.specs.declared.bodies.Words.TheVariants.{Gamma, Delta, Rice, VariableByte}
-use Rattle.headings.specs.declared.bodies.Body.{Body}
-use Rattle.headings.specs.declared.bodies.Body.TheVariants.{ByWords, ByHalves}
 
 -- the bits of a word, in each code of words
 abbrev pub image_by : Words → ℕ → List Bool
@@ -35,9 +33,14 @@ code_for (Rice k) = OfCode.Rice k
 code_for VariableByte = OfCode.VariableByte
 
 -- a code of words, with its words; or the interpolative one
-pub data ToldBody (c : Code) : Body → Type 0 where
-  words : {w : Words} → Known w → c ≡ code_for w → ToldBody c (ByWords w)
-  halves : c ≡ OfCode.Interpolative → ToldBody c ByHalves
+pub data ToldBody (c : Code) : Option Words → Type 0 where
+  words : {w : Words} → Known w → c ≡ code_for w → ToldBody c (Some w)
+  halves : c ≡ OfCode.Interpolative → ToldBody c None
+
+-- the kind of a list whose values are not signed, by whether it is one of instants
+abbrev pub unsigned_kind : Bool → Kinds.Kind
+unsigned_kind true = Kinds.Instants
+unsigned_kind false = Kinds.Plain
 
 -- of the kinds that are not signed, whether it is instants
 abbrev pub InstantsIf : Kind → Bool → Type 0

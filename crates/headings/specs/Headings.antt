@@ -1,8 +1,8 @@
 -- Which of document 01's codes and kinds a heading means, and what is told of the numbers that a caller gives.
-use Rattle.std.specs.Prelude.{◌≡◌, Bool, true, false, List, ℕ, ◌≤◌, ℤ}
+use Rattle.std.specs.Prelude.{◌≡◌, Option, Some, None, Result, Ok, Err, List, ℕ, ◌≤◌, ℤ}
 use Rattle.format.specs.Limits.{largest_parameter}
 use Rattle.format.specs.Kinds as Kinds
-use Rattle.format.specs.Kinds.{Family, Unsigned, Signed, kind_number}
+use Rattle.format.specs.Kinds.{kind_number}
 use Rattle.format.specs.Records as Records
 use Rattle.format.specs.Records.{code_number}
 use Rattle.format.specs.Answers.{Told}
@@ -12,12 +12,9 @@ use Rattle.headings.specs.declared.Code.TheVariants.{Gamma, Delta, Rice, Variabl
 use Rattle.headings.specs.declared.Kind.{Kind}
 use Rattle.headings.specs.declared.Kind.TheVariants.{Plain, Instants, Corrections}
 use Rattle.headings.specs.declared.Heading.{Heading}
-use Rattle.headings.specs.declared.CodeChoice.{CodeChoice}
-use Rattle.headings.specs.declared.CodeChoice.TheVariants as OfCode
-use Rattle.headings.specs.declared.KindChoice.{KindChoice}
-use Rattle.headings.specs.declared.KindChoice.TheVariants as OfKind
-use Rattle.headings.specs.declared.Choice.{Choice}
-use Rattle.headings.specs.declared.Choice.TheVariants as OfHeading
+use Rattle.headings.specs.declared.Family.{Family}
+use Rattle.headings.specs.declared.Family.TheVariants as OfFamily
+use Rattle.headings.specs.declared.UnknownKind.{UnknownKind}
 
 -- "1, gamma", "2, delta", "3, Rice", "4, variable-byte", "5, interpolative"
 abbrev pub code_of : Code → Records.Code
@@ -53,9 +50,9 @@ abbrev pub headed : Heading → List ℤ → Records.Record
 headed h vs = record { code = code_of h.code; kind = kind_of h.kind; parameter = carried h.code; values = vs }
 
 -- "Plain and instants share one entry, corrections have their own"
-abbrev pub family_if : Bool → Family
-family_if true = Signed
-family_if false = Unsigned
+abbrev pub family_meant : Family → Kinds.Family
+family_meant OfFamily.Unsigned = Kinds.Unsigned
+family_meant OfFamily.Signed = Kinds.Signed
 
 -- the code that a number and a parameter mean, with its parameter; or that they mean none
 pub record CodeIs (code parameter : ℕ) (c : Code) : Type 0 where
@@ -63,24 +60,24 @@ pub record CodeIs (code parameter : ℕ) (c : Code) : Type 0 where
   pub carries : parameter_of (code_of c) parameter ≡ carried c
   pub small : carried c ≤ largest_parameter
 
-pub data ToldCode (code parameter : ℕ) : CodeChoice → Type 0 where
-  is : {c : Code} → CodeIs code parameter c → ToldCode code parameter (OfCode.Is c)
-  unknown : ((c : Records.Code) → code_number c ≡ code → parameter_of c parameter ≤ largest_parameter → ⊥) → ToldCode code parameter OfCode.Unknown
+pub data ToldCode (code parameter : ℕ) : Option Code → Type 0 where
+  is : {c : Code} → CodeIs code parameter c → ToldCode code parameter (Some c)
+  unknown : ((c : Records.Code) → code_number c ≡ code → parameter_of c parameter ≤ largest_parameter → ⊥) → ToldCode code parameter None
 
-pub data ToldKind (f : Family) (kind : ℕ) : KindChoice → Type 0 where
-  is : {t : Kind} → Told f kind (kind_of t) → ToldKind f kind (OfKind.Is t)
-  unknown : ((t : Kinds.Kind) → Told f kind t → ⊥) → ToldKind f kind OfKind.Unknown
+pub data ToldKind (f : Kinds.Family) (kind : ℕ) : Option Kind → Type 0 where
+  is : {t : Kind} → Told f kind (kind_of t) → ToldKind f kind (Some t)
+  unknown : ((t : Kinds.Kind) → Told f kind t → ⊥) → ToldKind f kind None
 
 -- the kind that a number means, in whichever family; or that it means none: "kind 3"
-pub data ToldNumber (number : ℕ) : KindChoice → Type 0 where
-  is : {t : Kind} → kind_number (kind_of t) ≡ number → ToldNumber number (OfKind.Is t)
-  unknown : ((t : Kinds.Kind) → kind_number t ≡ number → ⊥) → ToldNumber number OfKind.Unknown
+pub data ToldNumber (number : ℕ) : Result Kind UnknownKind → Type 0 where
+  is : {t : Kind} → kind_number (kind_of t) ≡ number → ToldNumber number (Ok t)
+  unknown : ((t : Kinds.Kind) → kind_number t ≡ number → ⊥) → {e : UnknownKind} → ToldNumber number (Err e)
 
 -- the heading that a caller chooses, or that there is none: "4"
-pub record HeadingIs (f : Family) (code parameter kind : ℕ) (h : Heading) : Type 0 where
+pub record HeadingIs (f : Kinds.Family) (code parameter kind : ℕ) (h : Heading) : Type 0 where
   pub chosen : Chosen f code parameter kind (code_of h.code) (kind_of h.kind)
   pub carries : parameter_of (code_of h.code) parameter ≡ carried h.code
 
-pub data Chooses (f : Family) (code parameter kind : ℕ) : Choice → Type 0 where
-  is : {h : Heading} → HeadingIs f code parameter kind h → Chooses f code parameter kind (OfHeading.Is h)
-  unknown : ((c : Records.Code) (t : Kinds.Kind) → Chosen f code parameter kind c t → ⊥) → Chooses f code parameter kind OfHeading.Unknown
+pub data Chooses (f : Kinds.Family) (code parameter kind : ℕ) : Option Heading → Type 0 where
+  is : {h : Heading} → HeadingIs f code parameter kind h → Chooses f code parameter kind (Some h)
+  unknown : ((c : Records.Code) (t : Kinds.Kind) → Chosen f code parameter kind c t → ⊥) → Chooses f code parameter kind None

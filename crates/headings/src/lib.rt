@@ -4,13 +4,13 @@
 ghost use Rattle.std.specs.Prelude.{◌≡◌, ◌≤◌};
 ghost use Rattle.format.specs.Kinds.{kind_number};
 ghost use Rattle.format.specs.Records.{code_number};
-ghost use Rattle.headings.specs.Headings.{code_of, carried, carried_width, kind_of, family_if, ToldCode, ToldKind, ToldNumber, Chooses};
+ghost use Rattle.headings.specs.Headings.{code_of, carried, carried_width, kind_of, family_meant, ToldCode, ToldKind, ToldNumber, Chooses};
 
 use limits::LARGEST_PARAMETER;
 
 pub mod bodies;
 
-#[derive(Clone, Copy)]
+#[derive(Clone, Copy, PartialEq, Eq)]
 pub enum Code {
     Gamma,
     Delta,
@@ -19,11 +19,18 @@ pub enum Code {
     Interpolative,
 }
 
-#[derive(Clone, Copy)]
+#[derive(Clone, Copy, PartialEq, Eq)]
 pub enum Kind {
     Plain,
     Instants,
     Corrections,
+}
+
+// Whose values are not signed, or are: plain values and instants share the entries, corrections have their own.
+#[derive(Clone, Copy, PartialEq, Eq)]
+pub enum Family {
+    Unsigned,
+    Signed,
 }
 
 #[derive(Clone, Copy)]
@@ -32,115 +39,100 @@ pub struct Heading {
     pub kind: Kind,
 }
 
-// The code of a number and a parameter.
+// A number that no kind has.
 #[derive(Clone, Copy)]
-pub enum CodeChoice {
-    Is(Code),
-    Unknown,
+pub struct UnknownKind;
+
+impl From<Kind> for u32 {
+    ghost from_gives = { λ kind n. n ≡ kind_number (kind_of kind) };
+
+    fn from(kind: Kind) -> u32 {
+        match kind {
+            Kind::Plain => 0,
+            Kind::Instants => 1,
+            Kind::Corrections => 2,
+        }
+    }
 }
 
-// The kind of a number.
-#[derive(Clone, Copy)]
-pub enum KindChoice {
-    Is(Kind),
-    Unknown,
+impl TryFrom<u32> for Kind {
+    type Error = UnknownKind;
+
+    ghost try_from_gives = { ToldNumber };
+
+    #[tactic(auto, using(crate::specs::Laws::Choices::plain_numbered, crate::specs::Laws::Choices::instants_numbered, crate::specs::Laws::Choices::corrections_numbered, crate::specs::Laws::Choices::none_numbered))]
+    fn try_from(number: u32) -> Result<Kind, UnknownKind> {
+        match number {
+            0 => Ok(Kind::Plain),
+            1 => Ok(Kind::Instants),
+            2 => Ok(Kind::Corrections),
+            _ => Err(UnknownKind),
+        }
+    }
 }
 
-// The heading that a caller asks for.
-#[derive(Clone, Copy)]
-pub enum Choice {
-    Is(Heading),
-    Unknown,
+// The kind of a number that is one of the family's.
+#[tactic(auto, using(crate::specs::Laws::Choices::plain_is, crate::specs::Laws::Choices::instants_is, crate::specs::Laws::Choices::corrections_is, crate::specs::Laws::Choices::not_signed, crate::specs::Laws::Choices::not_unsigned))]
+pub fn kind_of(family: Family, number: u32) -> Option<Kind>
+    ensures { ToldKind (family_meant family) number result }
+{
+    match family {
+        Family::Unsigned => match number {
+            0 => Some(Kind::Plain),
+            1 => Some(Kind::Instants),
+            _ => None,
+        },
+        Family::Signed => match number {
+            2 => Some(Kind::Corrections),
+            _ => None,
+        },
+    }
 }
 
-pub fn code_of(code: u32, parameter: u32) -> CodeChoice
+// The code of a number and a parameter, as a caller or a record gives them.
+#[tactic(auto, using(crate::specs::Laws::Choices::gamma_is, crate::specs::Laws::Choices::delta_is, crate::specs::Laws::Choices::rice_is, crate::specs::Laws::Choices::rice_over, crate::specs::Laws::Choices::variable_byte_is, crate::specs::Laws::Choices::interpolative_is, crate::specs::Laws::Choices::no_code))]
+pub fn code_of(code: u32, parameter: u32) -> Option<Code>
     ensures { ToldCode code parameter result }
 {
     if code == 1 {
-        return CodeChoice::Is(Code::Gamma);
+        return Some(Code::Gamma);
     }
     if code == 2 {
-        return CodeChoice::Is(Code::Delta);
+        return Some(Code::Delta);
     }
     if code == 3 {
         let too_large = LARGEST_PARAMETER < parameter;
         if too_large {
-            return CodeChoice::Unknown;
+            return None;
         }
-        return CodeChoice::Is(Code::Rice(parameter));
+        return Some(Code::Rice(parameter));
     }
     if code == 4 {
-        return CodeChoice::Is(Code::VariableByte);
+        return Some(Code::VariableByte);
     }
     let interpolative = code == 5;
     if interpolative {
-        return CodeChoice::Is(Code::Interpolative);
+        return Some(Code::Interpolative);
     }
-    CodeChoice::Unknown
+    None
 }
 
-// The kind of a number that is one of the family's.
-pub fn kind_of(signed: bool, kind: u32) -> KindChoice
-    ensures { ToldKind (family_if signed) kind result }
+// What a writer is told: the entry's family, and three numbers. The interpolative code goes with instants alone.
+pub fn choose(family: Family, code: u32, parameter: u32, kind: u32) -> Option<Heading>
+    ensures { Chooses (family_meant family) code parameter kind result }
 {
-    if signed {
-        if kind == 2 {
-            return KindChoice::Is(Kind::Corrections);
-        }
-        return KindChoice::Unknown;
+    let chosen = code_of(code, parameter)?;
+    let kind_chosen = kind_of(family, kind)?;
+    if code == 5 && kind != 1 {
+        return None;
     }
-    if kind == 0 {
-        return KindChoice::Is(Kind::Plain);
-    }
-    if kind == 1 {
-        return KindChoice::Is(Kind::Instants);
-    }
-    KindChoice::Unknown
+    Some(Heading {
+        code: chosen,
+        kind: kind_chosen,
+    })
 }
 
-// The kind of a number, in whichever family.
-pub fn kind_numbered(number: u32) -> KindChoice
-    ensures { ToldNumber number result }
-{
-    if number == 0 {
-        return KindChoice::Is(Kind::Plain);
-    }
-    if number == 1 {
-        return KindChoice::Is(Kind::Instants);
-    }
-    if number == 2 {
-        return KindChoice::Is(Kind::Corrections);
-    }
-    KindChoice::Unknown
-}
-
-// Both, where the interpolative code goes with instants.
-fn both(signed: bool, code: u32, parameter: u32, kind: u32) -> Choice
-    requires { code ≡ 5 → kind ≡ 1 }
-    ensures { Chooses (family_if signed) code parameter kind result }
-{
-    match code_of(code, parameter) {
-        CodeChoice::Is(c) => match kind_of(signed, kind) {
-            KindChoice::Is(t) => Choice::Is(Heading { code: c, kind: t }),
-            KindChoice::Unknown => Choice::Unknown,
-        },
-        CodeChoice::Unknown => Choice::Unknown,
-    }
-}
-
-// What a writer is told: the entry's family, and three numbers.
-pub fn choose(signed: bool, code: u32, parameter: u32, kind: u32) -> Choice
-    ensures { Chooses (family_if signed) code parameter kind result }
-{
-    if code != 5 {
-        return both(signed, code, parameter, kind);
-    }
-    if kind != 1 {
-        return Choice::Unknown;
-    }
-    both(signed, code, parameter, kind)
-}
-
+// A number alone, and no `From`: Rice's k is not in it.
 pub fn code_number(code: Code) -> u32
     ensures { (result ≡ code_number (code_of code)) × (result ≤ 5) }
 {
@@ -158,11 +150,8 @@ pub fn parameter(code: Code) -> u32
     ensures { result ≡ carried code }
 {
     match code {
-        Code::Gamma => 0,
-        Code::Delta => 0,
         Code::Rice(k) => k,
-        Code::VariableByte => 0,
-        Code::Interpolative => 0,
+        Code::Gamma | Code::Delta | Code::VariableByte | Code::Interpolative => 0,
     }
 }
 
@@ -171,20 +160,7 @@ pub fn parameter_width(code: Code) -> usize
     ensures { (result ≡ carried_width code) × (result ≤ 5) }
 {
     match code {
-        Code::Gamma => 0,
-        Code::Delta => 0,
         Code::Rice(_) => 5,
-        Code::VariableByte => 0,
-        Code::Interpolative => 0,
-    }
-}
-
-pub fn kind_number(kind: Kind) -> u32
-    ensures { (result ≡ kind_number (kind_of kind)) × (result ≤ 2) }
-{
-    match kind {
-        Kind::Plain => 0,
-        Kind::Instants => 1,
-        Kind::Corrections => 2,
+        Code::Gamma | Code::Delta | Code::VariableByte | Code::Interpolative => 0,
     }
 }

@@ -11,9 +11,9 @@ ghost use Rattle.read_middles.specs.Parts.{instants_of, LastRead};
 ghost use Rattle.keep_interpolative.specs.Parts.{KeptPart};
 
 use bits::{BitPos, Cursor};
-use read_middles::{read_middle, refusal, refusal_bit};
-use read_words::{Read, delta};
-use reading::{Kept, Refusal};
+use read_middles::{read_middle, refused};
+use read_words::delta;
+use reading::Refused;
 
 // Puts an instant into a list.
 fn store(list: &mut [u32], i: usize, t: u32)
@@ -24,7 +24,7 @@ fn store(list: &mut [u32], i: usize, t: u32)
 }
 
 // Keeps the instants of n elements between low and hi, from the place `start` on, and tells the bit after them; or beyond the stop a
-// refusal.
+// refusal. It stands beside `judge_part`, which leaves out the parts whose values are determined: here each has to be written.
 fn keep_part(
     s: &[u8],
     at: usize,
@@ -66,7 +66,14 @@ fn keep_part(
 }
 
 // Keeps the n instants of which the last, wherever it has been read, has the word w: the others are left to be read.
-fn keep_others(s: &[u8], at: usize, stop: usize, own: &mut [u32], n: usize, w: u32) -> Kept
+fn keep_others(
+    s: &[u8],
+    at: usize,
+    stop: usize,
+    own: &mut [u32],
+    n: usize,
+    w: u32,
+) -> Result<Cursor, Refused>
     requires place { (at ≤ stop) × (stop ≤ 8 * length s.now) × (length s.now ≤ longest_buffer) }
     requires room { (1 ≤ n) × (n ≤ longest_list) × (n ≤ length own.old) × Word w }
     ensures { (c : Cursor) → LastRead n (n - 1) (w - 1) (w - 1 + (n - 1)) s.now c at stop → ToldKept (instants_of n) n s.now c (map pos own.old) (map pos own.new) result }
@@ -74,22 +81,21 @@ fn keep_others(s: &[u8], at: usize, stop: usize, own: &mut [u32], n: usize, w: u
     let others = n - 1;
     let next = keep_part(s, at, stop, own, 0, others, 1, (w - 1) as usize + others);
     if stop < next {
-        return Kept::No(refusal(next), refusal_bit(next));
+        return Err(refused(next));
     }
     store(own, others, w - 1);
-    Kept::Whole(Cursor::new(BitPos::new(next), BitPos::new(stop)))
+    Ok(Cursor::new(BitPos::new(next), BitPos::new(stop)))
 }
 
-pub fn keep(c: Cursor, s: &[u8], n: usize, own: &mut [u32]) -> Kept
+pub fn keep(c: Cursor, s: &[u8], n: usize, own: &mut [u32]) -> Result<Cursor, Refused>
     requires { Within c (length s.now) × (n ≤ longest_list) × (n ≤ length own.old) }
     ensures { ToldKept (instants_of n) n s.now c (map pos own.old) (map pos own.new) result }
 {
     if n == 0 {
-        return Kept::Whole(c);
+        return Ok(c);
     }
     match delta::read(c, s) {
-        Read::Took(w, d) => keep_others(s, d.at().bit(), d.stop().bit(), own, n, w),
-        Read::Cut => Kept::No(Refusal::CutShort, c.at()),
-        Read::Bad(_) => Kept::No(Refusal::BadWord, c.at()),
+        Ok((w, d)) => keep_others(s, d.at().bit(), d.stop().bit(), own, n, w),
+        Err(e) => Err(Refused::word(e, c.at())),
     }
 }

@@ -3,3 +3,4 @@ pub mod Tests
 pub mod Signs
 pub mod Judging
 pub mod Same
+pub mod Numbers

@@ -1,47 +1,45 @@
 // Corrections: signed numbers.
-ghost use Rattle.std.specs.Prelude.{◌≡◌, pos};
-ghost use Rattle.format.specs.Codes.{Word};
-ghost use Rattle.format.specs.Kinds.{Corrections, InRange, word_of};
-ghost use Rattle.lists.specs.Tests.{Unless};
-ghost use Rattle.lists.specs.Judged.{ToldList};
+ghost use Rattle.format.specs.Kinds.{Signed};
 
-use crate::Judged;
+use crate::Item;
+use headings::{Family, Kind};
 
 // The lower end of the range; the upper one is i32's own.
 const LOWEST: i32 = -limits::LARGEST_CORRECTION;
 
-// The word that stands for a correction. The value before it does not matter.
-pub fn word(v: i32) -> u32
-    requires { InRange Corrections v }
-    ensures { (result ≡ word_of Corrections (pos 0) v) × Word result }
-{
-    if 0 <= v {
-        2 * (v as u32)
-    } else {
-        2 * ((-v) as u32) + 1
-    }
-}
+impl Item for i32 {
+    ghost number = { λ v. v };
 
-// Whether a correction is outside the range.
-fn outside(v: i32) -> bool
-    ensures { Unless (InRange Corrections v) result }
-{
-    if v == 0 {
-        return true;
-    }
-    v < LOWEST
-}
+    ghost of_family = { Signed };
 
-// The first place with a value outside the range, if there is one.
-pub fn judge(values: &[i32]) -> Judged
-    ensures { ToldList Corrections values.now result }
-{
-    let mut i = 0;
-    while i < values.len() {
-        if outside(values[i]) {
-            return Judged::Range(i);
+    ghost number_one = { λ x y e. e };
+
+    fn family() -> Family {
+        Family::Signed
+    }
+
+    fn zero() -> i32 {
+        0
+    }
+
+    fn outside(self, _kind: Kind) -> bool {
+        if self == 0 {
+            return true;
         }
-        i += 1;
+        self < LOWEST
     }
-    Judged::Fine
+
+    // Corrections rise and fall as they like.
+    fn falls(self, _kind: Kind, _before: i32) -> bool {
+        false
+    }
+
+    // The value before it does not matter.
+    fn word(self, _kind: Kind, _before: i32) -> u32 {
+        if 0 <= self {
+            2 * (self as u32)
+        } else {
+            2 * ((-self) as u32) + 1
+        }
+    }
 }

@@ -7,7 +7,7 @@ pub mod find;
 pub mod record;
 pub mod stream;
 
-pub use find_in_records::{LookedUp, LookedUpCorrection, Searched};
-pub use read_records::Read;
+pub use read_records::Found;
 pub use read_streams::Checked;
-pub use writing::Wrote;
+pub use reading::{Refusal, Refused};
+pub use writing::Unwritten;

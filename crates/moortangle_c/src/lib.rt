@@ -1,4 +1,5 @@
-// The C boundary: each entry under its C name, its answer as a struct.
+// The C boundary: each entry under its C name, its answer as a struct. C has no generic function and no enum with values, so each family has
+// its own functions, and code, kind and parameter are numbers.
 #![tactic(auto)]
 
 ghost use Rattle.std.specs.Prelude.{◌≡◌};

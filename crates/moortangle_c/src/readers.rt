@@ -6,10 +6,7 @@ ghost use Rattle.flat_answers.specs.Flat.{flat_record, flat_value, flat_correcti
 ghost use Rattle.moortangle_c.specs.Tells.{Tells};
 
 use crate::at;
-use flat_answers::{
-    Correction, Place, Record, Stream, Value, correction_of, place_of, record_of, stream_of,
-    value_of,
-};
+use flat_answers::{Correction, Place, Record, Stream, Value, record_of};
 use moortangle::{find, record, stream};
 
 #[unsafe(no_mangle)]
@@ -48,7 +45,7 @@ pub extern "C" fn moortangle_look_up(
 ) -> Value
     ensures { Tells flat_value (LooksUp buffer.now start stop Unsigned kind place) result }
 {
-    value_of(find::look_up(buffer, at(start), at(stop), kind, place as usize))
+    Value::from(find::look_up(buffer, at(start), at(stop), kind, place as usize))
 }
 
 #[unsafe(no_mangle)]
@@ -61,19 +58,19 @@ pub extern "C" fn moortangle_look_up_correction(
 ) -> Correction
     ensures { Tells flat_correction (LooksUp buffer.now start stop Signed kind place) result }
 {
-    correction_of(find::look_up_correction(buffer, at(start), at(stop), kind, place as usize))
+    Correction::from(find::look_up_correction(buffer, at(start), at(stop), kind, place as usize))
 }
 
 #[unsafe(no_mangle)]
 pub extern "C" fn moortangle_search(buffer: &[u8], start: u64, stop: u64, instant: u32) -> Place
     ensures { Tells flat_place (Searches buffer.now start stop instant) result }
 {
-    place_of(find::search(buffer, at(start), at(stop), instant))
+    Place::from(find::search(buffer, at(start), at(stop), instant))
 }
 
 #[unsafe(no_mangle)]
 pub extern "C" fn moortangle_check(buffer: &[u8]) -> Stream
     ensures { Tells flat_stream (Checks buffer.now) result }
 {
-    stream_of(stream::check(buffer))
+    Stream::from(stream::check(buffer))
 }

@@ -6,7 +6,7 @@ ghost use Rattle.flat_answers.specs.Flat.{flat_written};
 ghost use Rattle.moortangle_c.specs.Tells.{Tells};
 
 use crate::at;
-use flat_answers::{Written, written_of};
+use flat_answers::Written;
 use moortangle::{end, record};
 
 #[unsafe(no_mangle)]
@@ -20,7 +20,7 @@ pub extern "C" fn moortangle_write(
 ) -> Written
     ensures { Tells flat_written (λ x. Writes buffer.old start Unsigned code parameter kind (map pos values.now) x buffer.new) result }
 {
-    written_of(record::write(buffer, at(start), code, parameter, kind, values))
+    Written::from(record::write(buffer, at(start), code, parameter, kind, values))
 }
 
 #[unsafe(no_mangle)]
@@ -34,12 +34,12 @@ pub extern "C" fn moortangle_write_corrections(
 ) -> Written
     ensures { Tells flat_written (λ x. Writes buffer.old start Signed code parameter kind values.now x buffer.new) result }
 {
-    written_of(record::write_corrections(buffer, at(start), code, parameter, kind, values))
+    Written::from(record::write_corrections(buffer, at(start), code, parameter, kind, values))
 }
 
 #[unsafe(no_mangle)]
 pub extern "C" fn moortangle_write_end(buffer: &mut [u8], start: u64) -> Written
     ensures { Tells flat_written (λ x. WritesEnd buffer.old start x buffer.new) result }
 {
-    written_of(end::write_end(buffer, at(start)))
+    Written::from(end::write_end(buffer, at(start)))
 }

@@ -5,17 +5,9 @@ ghost use Rattle.format.specs.Limits.{longest_buffer};
 ghost use Rattle.pen.specs.Pen.{Inside, inked, Opened, Drawn};
 
 use crate::{Pen, write};
-use bits::number::{number, part};
-use bits::small::{least, power};
+use bits::number::number;
+use bits::small::power;
 use bits::{BitPos, BytePos};
-
-// A whole byte.
-fn byte(buf: &mut [u8], q: usize, b: u8)
-    requires { q < length buf.old }
-    ensures { bits_of buf.new ≡ put (bits_of buf.old) (8 * q) (in_bits 8 b) }
-{
-    buf[q] = b;
-}
 
 // 32 bits, from a byte on.
 fn store(buf: &mut [u8], first: BytePos, bits: u32)
@@ -23,10 +15,7 @@ fn store(buf: &mut [u8], first: BytePos, bits: u32)
     ensures { bits_of buf.new ≡ put (bits_of buf.old) (8 * first.0) (in_bits 32 bits) }
 {
     let q = first.byte();
-    byte(buf, q, part(bits, 24, 8));
-    byte(buf, q + 1, part(bits, 16, 8));
-    byte(buf, q + 2, part(bits, 8, 8));
-    byte(buf, q + 3, part(bits, 0, 8));
+    buf[q..q + 4].copy_from_slice(&bits.to_be_bytes());
 }
 
 impl Pen {
@@ -38,7 +27,7 @@ impl Pen {
         let bit = at.bit();
         Pen {
             at: at,
-            gathered: number(buf, 32 * (bit / 32), bit % 32) as u64,
+            gathered: u64::from(number(buf, 32 * (bit / 32), bit % 32)),
         }
     }
 
@@ -50,7 +39,7 @@ impl Pen {
         let next = here.after(width);
         let at = here.bit();
         let count = at % 32 + width;
-        let all = (self.gathered << width) + value as u64;
+        let all = (self.gathered << width) + u64::from(value);
         let few = count < 32;
         if few {
             return Pen {
@@ -62,7 +51,7 @@ impl Pen {
         store(buf, BytePos::new(at / 32 * 4), (all >> rest) as u32);
         Pen {
             at: next,
-            gathered: all % power(rest) as u64,
+            gathered: all % u64::from(power(rest)),
         }
     }
 
@@ -73,8 +62,9 @@ impl Pen {
     {
         let mut pen = self;
         let mut left = count;
+        // zeros go 32 at a time, and the last ones with the field, so no range counts the turns
         while 32 < left + width {
-            let w = least(left, 32);
+            let w = left.min(32);
             pen = pen.field(buf, w, 0);
             left -= w;
         }

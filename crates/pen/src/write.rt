@@ -5,17 +5,18 @@ ghost use Rattle.format.specs.Limits.{longest_buffer};
 ghost use Rattle.pen.specs.Laws.Bytes.{patched};
 
 use bits::number::part;
-use bits::small::{least, power};
+use bits::small::power;
 
 // A byte in which the w bits above the lowest k are v.
 fn patch(b: u8, w: usize, k: usize, v: u8) -> u8
     requires { (w + k ≤ 8) × (v < 2 ^ w) }
     ensures { result ≡ patched b w k v }
 {
+    let b = u32::from(b);
+    let v = u32::from(v);
     let low = power(k);
     let high = power(w + k);
-    let b = b as u32;
-    (b / high * high + v as u32 * low + b % low) as u8
+    (b / high * high + v * low + b % low) as u8
 }
 
 // v in w bits, within one byte.
@@ -34,8 +35,9 @@ pub fn field(buf: &mut [u8], at: usize, width: usize, value: u32)
     ensures { bits_of buf.new ≡ put (bits_of buf.old) at (in_bits width value) }
 {
     let mut done = 0;
+    // each turn takes what is left of a byte, so no range or iterator counts it
     while done < width {
-        let w = least(width - done, 8 - (at + done) % 8);
+        let w = (width - done).min(8 - (at + done) % 8);
         let v = part(value, width - done - w, w);
         within_byte(buf, at + done, w, v);
         done += w;

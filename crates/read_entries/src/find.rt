@@ -1,25 +1,38 @@
 // One value of a record by its place, and how many instants are below a sought one.
 ghost use Rattle.format.specs.Kinds.{Unsigned, Signed};
 ghost use Rattle.format.specs.Reading.{LooksUp, Searches};
-ghost use Rattle.find_in_records.specs.Told.{looked_up, looked_up_correction, searched};
+ghost use Rattle.find_in_records.specs.Told.{value_told, looked_up, looked_up_correction, searched};
 
+use crate::asked;
 use bits::BitPos;
-use find_in_records::{LookedUp, LookedUpCorrection, Searched};
-use headings::KindChoice;
-use reading::place::Placed;
-use reading::{Refusal, place};
+use read_bodies::Body;
+use reading::{Refused, place};
+
+fn look_up_value<T: Body>(
+    s: &[u8],
+    start: BitPos,
+    stop: BitPos,
+    kind: u32,
+    place: usize,
+) -> Result<T, Refused>
+    ensures { LooksUp s.now start.0 stop.0 T.of_family kind place (value_told T.number result) }
+{
+    let c = place::span(s, start, stop)?;
+    let t = asked::<T>(kind)?;
+    find_in_records::look_up(c, s, t, place)
+}
 
 // In a record of plain values or of instants.
-pub fn look_up(s: &[u8], start: BitPos, stop: BitPos, kind: u32, place: usize) -> LookedUp
+pub fn look_up(
+    s: &[u8],
+    start: BitPos,
+    stop: BitPos,
+    kind: u32,
+    place: usize,
+) -> Result<u32, Refused>
     ensures { LooksUp s.now start.0 stop.0 Unsigned kind place (looked_up result) }
 {
-    match place::span(s, start, stop) {
-        Placed::At(c) => match headings::kind_of(false, kind) {
-            KindChoice::Is(t) => find_in_records::unsigned::look_up(c, s, t, place),
-            KindChoice::Unknown => LookedUp::Refused(Refusal::Unknown, BitPos::new(0)),
-        },
-        Placed::Outside => LookedUp::Refused(Refusal::Outside, BitPos::new(0)),
-    }
+    look_up_value(s, start, stop, kind, place)
 }
 
 // In a record of corrections.
@@ -29,23 +42,15 @@ pub fn look_up_correction(
     stop: BitPos,
     kind: u32,
     place: usize,
-) -> LookedUpCorrection
+) -> Result<i32, Refused>
     ensures { LooksUp s.now start.0 stop.0 Signed kind place (looked_up_correction result) }
 {
-    match place::span(s, start, stop) {
-        Placed::At(c) => match headings::kind_of(true, kind) {
-            KindChoice::Is(_) => find_in_records::signed::look_up(c, s, place),
-            KindChoice::Unknown => LookedUpCorrection::Refused(Refusal::Unknown, BitPos::new(0)),
-        },
-        Placed::Outside => LookedUpCorrection::Refused(Refusal::Outside, BitPos::new(0)),
-    }
+    look_up_value::<i32>(s, start, stop, kind, place)
 }
 
-pub fn search(s: &[u8], start: BitPos, stop: BitPos, sought: u32) -> Searched
+pub fn search(s: &[u8], start: BitPos, stop: BitPos, sought: u32) -> Result<usize, Refused>
     ensures { Searches s.now start.0 stop.0 sought (searched result) }
 {
-    match place::span(s, start, stop) {
-        Placed::At(c) => find_in_records::unsigned::search(c, s, sought),
-        Placed::Outside => Searched::Refused(Refusal::Outside, BitPos::new(0)),
-    }
+    let c = place::span(s, start, stop)?;
+    find_in_records::search(c, s, sought)
 }

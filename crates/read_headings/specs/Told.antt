@@ -1,5 +1,5 @@
 -- What the reader of a heading tells.
-use Rattle.std.specs.Prelude.{◌≡◌, List, ◌++◌, ℕ, ◌≤◌, ℤ, length}
+use Rattle.std.specs.Prelude.{◌≡◌, Option, Result, Ok, Err, List, ◌++◌, ℕ, ◌≤◌, ℤ, length}
 use Rattle.layout.specs.Layout.{Layout, known, bind}
 use Rattle.format.specs.Limits.{longest_list, largest_parameter}
 use Rattle.format.specs.Kinds as Kinds
@@ -12,16 +12,17 @@ use Rattle.bits.specs.declared.BitPos.{BitPos}
 use Rattle.bits.specs.declared.Cursor.{Cursor}
 use Rattle.headings.specs.Headings.{code_of, carried, kind_of, headed}
 use Rattle.headings.specs.declared.Heading.{Heading}
+use Rattle.headings.specs.declared.Kind.{Kind}
 use Rattle.wanted.specs.Wanted.{wanted_of}
-use Rattle.wanted.specs.declared.Wanted.{Wanted}
 use Rattle.reading.specs.Refusals.{refusal_number}
 use Rattle.reading.specs.Reached.{Reached}
 use Rattle.reading.specs.declared.Refusal.{Refusal}
+use Rattle.reading.specs.declared.Refused.{Refused}
 use Rattle.read_headings.specs.declared.Begun.{Begun}
 use Rattle.read_headings.specs.declared.Begun.TheVariants as OfBegun
 
 -- what is asked for, as document 01's definitions say it
-abbrev pub asked : Wanted → ℕ → Asked
+abbrev pub asked : Option Kind → ℕ → Asked
 asked w room = record { wanted = wanted_of w; room = room }
 
 -- the body that a heading asks for
@@ -65,13 +66,13 @@ pub record Headed (q : Asked) (s : List ℕ) (c : Cursor) (h : Heading) (n : ℕ
   pub reached : Reached (record_for q) s c (body_of h n) (headed h) d
 
 -- neither a heading nor an end mark stands at c, so no record does: the answer is m, at bit p
-pub record Refused (q : Asked) (s : List ℕ) (c : Cursor) (m : Refusal) (p : BitPos) : Type 0 where
+pub record NoHeading (q : Asked) (s : List ℕ) (c : Cursor) (m : Refusal) (p : BitPos) : Type 0 where
   pub mark : NoEnd (left c s)
   pub heading : Refuses (heading_for q) s c (refusal_number m) p
   pub whole : Refuses (record_for q) s c (refusal_number m) p
 
 -- what stands at c: a heading, an end mark, or neither
-pub data ToldHeading (q : Asked) (s : List ℕ) (c : Cursor) : Begun → Type 0 where
-  begins : {h : Heading} {n : ℕ} {d : Cursor} → Headed q s c h n d → ToldHeading q s c (OfBegun.Body h n d)
-  ends : {d : Cursor} → Ended s c d → ToldHeading q s c (OfBegun.End d)
-  no : {m : Refusal} {p : BitPos} → Refused q s c m p → ToldHeading q s c (OfBegun.No m p)
+pub data ToldHeading (q : Asked) (s : List ℕ) (c : Cursor) : Result Begun Refused → Type 0 where
+  begins : {h : Heading} {n : ℕ} {d : Cursor} → Headed q s c h n d → ToldHeading q s c (Ok (OfBegun.Body h n d))
+  ends : {d : Cursor} → Ended s c d → ToldHeading q s c (Ok (OfBegun.End d))
+  no : {m : Refusal} {p : BitPos} → NoHeading q s c m p → ToldHeading q s c (Err (record { why = m; at = p }))

@@ -1,124 +1,101 @@
 // A record's heading, read at a cursor: code, kind, Rice's k and the count, each judged as it comes; or an end mark.
 #![tactic(auto)]
 
-ghost use Rattle.std.specs.Prelude.{length};
+ghost use Rattle.std.specs.Prelude.{◌≡◌, length};
 ghost use Rattle.headings.specs.Headings.{code_of};
 ghost use Rattle.bits.specs.Cursor.{Within};
 ghost use Rattle.wanted.specs.Wanted.{wanted_of};
 ghost use Rattle.read_headings.specs.Fields.{ToldCodeField, ToldKindField, ToldParameterField};
 ghost use Rattle.read_headings.specs.Told.{asked, ToldHeading};
 
-use bits::{BitPos, Cursor, Field};
-use headings::{Code, CodeChoice, Heading, Kind, KindChoice};
-use read_counts::CountField;
-use reading::Refusal;
-use wanted::Wanted;
+use bits::Cursor;
+use headings::{Code, Heading, Kind};
+use reading::{Refusal, Refused};
 
-// What stands at a cursor: a heading with its count, before the body; an end mark; or neither.
+// What stands at a cursor, and the cursor after it: a heading with its count, before the body; or an end mark.
 #[derive(Clone, Copy)]
 pub enum Begun {
     Body(Heading, usize, Cursor),
     End(Cursor),
-    No(Refusal, BitPos),
 }
 
-// Each field, and the cursor after it. A refusal is told at the field's first bit.
-#[derive(Clone, Copy)]
-enum CodeField {
-    Is(Code, Cursor),
-    End(Cursor),
-    No(Refusal),
+// A refusal of the field at a cursor, told at the field's first bit.
+fn refused(why: Refusal, field: Cursor) -> Refused
+    ensures { result ≡ record { why = why; at = field.at } }
+{
+    Refused {
+        why,
+        at: field.at(),
+    }
 }
 
-#[derive(Clone, Copy)]
-enum KindField {
-    Is(Kind, Cursor),
-    No(Refusal),
-}
-
-#[derive(Clone, Copy)]
-enum ParameterField {
-    Is(Code, Cursor),
-    Cut,
-}
-
-// The code; Rice's k is still 0.
-fn code_field(c: Cursor, s: &[u8]) -> CodeField
+// The code, of which Rice's k is still 0; or None, where an end mark stands.
+fn code_field(c: Cursor, s: &[u8]) -> Result<(Option<Code>, Cursor), Refused>
     requires { Within c (length s.now) }
     ensures { ToldCodeField s.now c result }
 {
-    match c.field(s, 4) {
-        Field::Took(v, d) => {
-            if v == 0 {
-                return CodeField::End(d);
-            }
-            match headings::code_of(v, 0) {
-                CodeChoice::Is(code) => CodeField::Is(code, d),
-                CodeChoice::Unknown => CodeField::No(Refusal::Unknown),
-            }
-        }
-        Field::Cut => CodeField::No(Refusal::CutShort),
+    let Some((v, d)) = c.field(s, 4) else {
+        return Err(refused(Refusal::CutShort, c));
+    };
+    if v == 0 {
+        return Ok((None, d));
+    }
+    match headings::code_of(v, 0) {
+        Some(code) => Ok((Some(code), d)),
+        None => Err(refused(Refusal::Unknown, c)),
     }
 }
 
-fn kind_field(c: Cursor, s: &[u8], wanted: Wanted, code: Code) -> KindField
+fn kind_field(
+    c: Cursor,
+    s: &[u8],
+    wanted: Option<Kind>,
+    code: Code,
+) -> Result<(Kind, Cursor), Refused>
     requires { Within c (length s.now) }
     ensures { ToldKindField (wanted_of wanted) (code_of code) s.now c result }
 {
-    match c.field(s, 2) {
-        Field::Took(v, d) => match headings::kind_numbered(v) {
-            KindChoice::Is(kind) => {
-                if wanted::unwanted(wanted, kind) {
-                    return KindField::No(Refusal::Unknown);
-                }
-                if wanted::amiss(code, kind) {
-                    return KindField::No(Refusal::Unknown);
-                }
-                KindField::Is(kind, d)
-            }
-            KindChoice::Unknown => KindField::No(Refusal::Unknown),
-        },
-        Field::Cut => KindField::No(Refusal::CutShort),
+    let Some((v, d)) = c.field(s, 2) else {
+        return Err(refused(Refusal::CutShort, c));
+    };
+    let wrong = refused(Refusal::Unknown, c);
+    let Ok(kind) = Kind::try_from(v) else {
+        return Err(wrong);
+    };
+    if wanted::unwanted(wanted, kind) {
+        return Err(wrong);
     }
+    if wanted::amiss(code, kind) {
+        return Err(wrong);
+    }
+    Ok((kind, d))
 }
 
 // The code with its parameter.
-fn parameter_field(c: Cursor, s: &[u8], code: Code) -> ParameterField
+fn parameter_field(c: Cursor, s: &[u8], code: Code) -> Result<(Code, Cursor), Refused>
     requires { Within c (length s.now) }
     ensures { ToldParameterField code s.now c result }
 {
-    if headings::code_number(code) != 3 {
-        return ParameterField::Is(code, c);
-    }
+    let Code::Rice(_) = code else {
+        return Ok((code, c));
+    };
     match c.field(s, 5) {
-        Field::Took(k, d) => ParameterField::Is(Code::Rice(k), d),
-        Field::Cut => ParameterField::Cut,
+        Some((k, d)) => Ok((Code::Rice(k), d)),
+        None => Err(refused(Refusal::CutShort, c)),
     }
 }
 
-pub fn read(c: Cursor, s: &[u8], wanted: Wanted, room: usize) -> Begun
+pub fn read(c: Cursor, s: &[u8], wanted: Option<Kind>, room: usize) -> Result<Begun, Refused>
     requires { Within c (length s.now) }
     ensures { ToldHeading (asked wanted room) s.now c result }
 {
-    match code_field(c, s) {
-        CodeField::Is(code, d) => match kind_field(d, s, wanted, code) {
-            KindField::Is(kind, e) => match parameter_field(e, s, code) {
-                ParameterField::Is(whole, f) => match read_counts::read(f, s, room) {
-                    CountField::Is(n, g) => Begun::Body(
-                        Heading {
-                            code: whole,
-                            kind: kind,
-                        },
-                        n,
-                        g,
-                    ),
-                    CountField::No(m) => Begun::No(m, f.at()),
-                },
-                ParameterField::Cut => Begun::No(Refusal::CutShort, e.at()),
-            },
-            KindField::No(m) => Begun::No(m, d.at()),
-        },
-        CodeField::End(d) => Begun::End(d),
-        CodeField::No(m) => Begun::No(m, c.at()),
-    }
+    let (found, d) = code_field(c, s)?;
+    let Some(code) = found else {
+        return Ok(Begun::End(d));
+    };
+    let (kind, e) = kind_field(d, s, wanted, code)?;
+    let (whole, f) = parameter_field(e, s, code)?;
+    let (n, g) = read_counts::read(f, s, room)?;
+    let heading = Heading { code: whole, kind };
+    Ok(Begun::Body(heading, n, g))
 }

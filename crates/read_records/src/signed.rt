@@ -1,66 +1,23 @@
-// Records of corrections.
-ghost use Rattle.std.specs.Prelude.{◌≤◌, length};
-ghost use Rattle.format.specs.Limits.{longest_list};
-ghost use Rattle.format.specs.Kinds.{Signed, Corrections};
-ghost use Rattle.bits.specs.Cursor.{Within};
-ghost use Rattle.read_bodies.specs.Bodies.{HeadingFor};
-ghost use Rattle.read_records.specs.Told.{Copied, ToldListed, ToldRead};
-
-use crate::Read;
+// Corrections.
+use crate::{Found, Listed, copied};
 use bits::Cursor;
-use headings::{Heading, Kind};
+use headings::Heading;
 use limits::LONGEST_LIST;
-use read_headings::Begun;
-use reading::Kept;
-use wanted::Wanted;
+use reading::Refused;
 
-// The first n corrections of an own list, put in front of a lent one.
-fn copy(own: &[i32], n: usize, list: &mut [i32])
-    requires { (n ≤ length own.now) × (n ≤ length list.old) }
-    ensures { Copied n own.now list.old list.new }
-{
-    let mut i = 0;
-    while i < n {
-        list[i] = own[i];
-        i += 1;
-    }
-}
-
-// The list after a heading, by way of an own list: only after the last correction is judged is the lent one touched.
-fn copied(c: Cursor, s: &[u8], h: Heading, n: usize, own: &mut [i32], list: &mut [i32]) -> Read
-    requires within { Within c (length s.now) × HeadingFor Signed h × (n ≤ longest_list) }
-    requires room { (n ≤ length own.old) × (n ≤ length list.old) }
-    ensures { ToldListed h n s.now c list.old list.new result }
-{
-    match read_bodies::signed::keep(c, s, h, n, own) {
-        Kept::Whole(d) => {
-            copy(own, n, list);
-            Read::Record(h, n, d.at())
+impl Listed for i32 {
+    fn listed(
+        c: Cursor,
+        s: &[u8],
+        h: Heading,
+        n: usize,
+        list: &mut [i32],
+    ) -> Result<Found, Refused> {
+        if n <= 64 {
+            let mut few = [0; 64];
+            return copied(c, s, h, n, &mut few, list);
         }
-        Kept::No(m, p) => Read::Refused(m, p),
-    }
-}
-
-// The list after a heading. A short one has an own list that is as short, which costs less to clear.
-fn listed(c: Cursor, s: &[u8], h: Heading, n: usize, list: &mut [i32]) -> Read
-    requires { Within c (length s.now) × HeadingFor Signed h × (n ≤ longest_list) × (n ≤ length list.old) }
-    ensures { ToldListed h n s.now c list.old list.new result }
-{
-    if n <= 64 {
-        let mut few = [0i32; 64];
-        return copied(c, s, h, n, &mut few, list);
-    }
-    let mut many = [0i32; LONGEST_LIST];
-    copied(c, s, h, n, &mut many, list)
-}
-
-pub fn read(c: Cursor, s: &[u8], list: &mut [i32]) -> Read
-    requires { Within c (length s.now) }
-    ensures { ToldRead Corrections s.now c list.old list.new result }
-{
-    match read_headings::read(c, s, Wanted::This(Kind::Corrections), list.len()) {
-        Begun::Body(h, n, d) => listed(d, s, h, n, list),
-        Begun::End(d) => Read::End(d.at()),
-        Begun::No(m, p) => Read::Refused(m, p),
+        let mut many = [0; LONGEST_LIST];
+        copied(c, s, h, n, &mut many, list)
     }
 }

@@ -1,20 +1,19 @@
 -- What the readers of words tell.
-use Rattle.std.specs.Prelude.{◌⊎◌, Bool, true, List, [], ◌∷◌, ◌++◌, ℕ, ◌+◌, ◌-◌, ◌/◌, ◌^◌, ◌≤◌, ◌<◌}
+use Rattle.std.specs.Prelude.{◌⊎◌, Result, Ok, Err, Bool, true, List, [], ◌∷◌, ◌++◌, ℕ, ◌-◌, ◌/◌, ◌^◌, ◌≤◌, ◌<◌}
 use Rattle.layout.specs.Bits.{zeros}
 use Rattle.layout.specs.Layout.{Stops, word}
 use Rattle.layout.specs.Dead.{Dies}
-use Rattle.format.specs.Limits.{largest_word}
 use Rattle.bits.specs.Cursor.{left, to, Taken}
 use Rattle.bits.specs.declared.BitPos.{BitPos}
 use Rattle.bits.specs.declared.Cursor.{Cursor}
-use Rattle.read_words.specs.declared.Read.{Read}
-use Rattle.read_words.specs.declared.Read.TheVariants.{Took, Cut, Bad}
+use Rattle.read_words.specs.declared.NoWord.{NoWord}
+use Rattle.read_words.specs.declared.NoWord.TheVariants.{Cut, Bad}
 
 -- of a set of words with these bits, at a cursor: taken, cut short, or dead at a bit
-pub data ToldWord (ok : ℕ → Type 0) (bits : ℕ → List Bool) (s : List ℕ) (c : Cursor) : Read → Type 0 where
-  took : {w : ℕ} {d : Cursor} → Taken (word ok bits) s c w d → ToldWord ok bits s c (Took w d)
-  cut : Stops ok bits (left c s) → ToldWord ok bits s c Cut
-  bad : {p : BitPos} → Dies ok bits (left c s) (left (to c p) s) → p.0 ≤ c.stop.0 → ToldWord ok bits s c (Bad p)
+pub data ToldWord (ok : ℕ → Type 0) (bits : ℕ → List Bool) (s : List ℕ) (c : Cursor) : Result (ℕ × Cursor) NoWord → Type 0 where
+  took : {w : ℕ} {d : Cursor} → Taken (word ok bits) s c w d → ToldWord ok bits s c (Ok (w, d))
+  cut : Stops ok bits (left c s) → ToldWord ok bits s c (Err Cut)
+  bad : {p : BitPos} → Dies ok bits (left c s) (left (to c p) s) → p.0 ≤ c.stop.0 → ToldWord ok bits s c (Err (Bad p))
 
 -- ---- the two parts that words are made of
 
@@ -39,17 +38,3 @@ pub record Live (v w n lo hi r : ℕ) : Type 0 where
   pub low : lo / 2 ^ (n - r) ≤ v / 2 ^ (w - r)
   pub high : v / 2 ^ (w - r) ≤ hi / 2 ^ (n - r)
   pub dead : r < w → (v / 2 ^ (w - r - 1) < lo / 2 ^ (n - r - 1)) ⊎ (hi / 2 ^ (n - r - 1) < v / 2 ^ (w - r - 1))
-
--- ---- a word made of its last part
-
--- the same told, of the word that is made of the one taken
-abbrev pub made : (ℕ → ℕ) → Read → Read
-made f (Took w d) = Took (f w) d
-made f Cut = Cut
-made f (Bad p) = Bad p
-
--- a word taken and `by` are a word of 32 bits
-abbrev pub Fits : ℕ → Read → Type 0
-Fits by (Took w d) = by + w ≤ largest_word
-Fits by Cut = Unit {0}
-Fits by (Bad p) = Unit {0}

@@ -5,8 +5,8 @@ ghost use Rattle.format.specs.Codes.{Word, rice};
 ghost use Rattle.bits.specs.Cursor.{Within};
 ghost use Rattle.read_words.specs.Told.{ToldWord};
 
-use crate::Read;
-use crate::parts::{between, raised, zeros};
+use crate::NoWord;
+use crate::parts::{between, zeros};
 use bits::Cursor;
 use bits::small::power;
 
@@ -28,24 +28,16 @@ fn most_after(p: u32, base: u64) -> u64
     requires { (0 < p) × (base ≤ largest_word - 1) }
     ensures { (result ≡ min (p - 1) (largest_word - 1 - base)) × (result < p) × (result + base ≤ largest_word - 1) }
 {
-    let rest = WIDE - base;
-    if ((p - 1) as u64) < rest {
-        return (p - 1) as u64;
-    }
-    rest
+    u64::from(p - 1).min(WIDE - base)
 }
 
-pub fn read(c: Cursor, s: &[u8], k: usize) -> Read
+pub fn read(c: Cursor, s: &[u8], k: usize) -> Result<(u32, Cursor), NoWord>
     requires { Within c (length s.now) × (k ≤ largest_parameter) }
     ensures { ToldWord Word (rice k) s.now c result }
 {
     let p = power(k);
-    match zeros(c, s, most_zeros(p)) {
-        Read::Took(q, d) => {
-            let base = q as u64 * p as u64;
-            raised(between(d, s, k, 0, most_after(p, base)), (base + 1) as u32)
-        }
-        Read::Cut => Read::Cut,
-        Read::Bad(t) => Read::Bad(t),
-    }
+    let (q, d) = zeros(c, s, most_zeros(p))?;
+    let base = q as u64 * p as u64;
+    let (rest, e) = between(d, s, k, 0, most_after(p, base))?;
+    Ok(((base + 1) as u32 + rest, e))
 }

@@ -1,29 +1,19 @@
 -- What judging and keeping a list come to, whatever its layout.
-use Rattle.std.specs.Prelude.{◌≡◌, List, ◌++◌, map, ℕ, ℤ, pos, length, get_or, drop}
+use Rattle.std.specs.Prelude.{◌≡◌, Result, Ok, Err, List, ◌++◌, ℕ, ℤ, pos, length, get_or, drop}
 use Rattle.layout.specs.Layout.{Layout}
 use Rattle.format.specs.Reading.{below}
 use Rattle.bits.specs.Cursor.{Taken, Refuses}
-use Rattle.bits.specs.declared.BitPos.{BitPos}
 use Rattle.bits.specs.declared.Cursor.{Cursor}
 use Rattle.reading.specs.Refusals.{refusal_number}
-use Rattle.reading.specs.declared.Refusal.{Refusal}
+use Rattle.reading.specs.declared.Refused.{Refused}
 use Rattle.reading.specs.declared.Judged.{Judged}
-use Rattle.reading.specs.declared.Judged.TheVariants as OfJudged
-use Rattle.reading.specs.declared.JudgedCorrections.{JudgedCorrections}
-use Rattle.reading.specs.declared.JudgedCorrections.TheVariants as OfCorrections
-use Rattle.reading.specs.declared.Kept.{Kept}
-use Rattle.reading.specs.declared.Kept.TheVariants as OfKept
 
--- a list stands at c: the value at a place and the number below a sought one are the list's own
-pub data ToldJudged (L : Layout (List ℤ)) (place sought : ℕ) (s : List ℕ) (c : Cursor) : Judged → Type 0 where
-  whole : {v less : ℕ} {d : Cursor} (ns : List ℕ) → Taken L s c (map pos ns) d → v ≡ get_or ns place 0 → less ≡ below sought (map pos ns) → ToldJudged L place sought s c (OfJudged.Whole v less d)
-  no : {m : Refusal} {p : BitPos} → Refuses L s c (refusal_number m) p → ToldJudged L place sought s c (OfJudged.No m p)
-
-pub data ToldCorrections (L : Layout (List ℤ)) (place : ℕ) (s : List ℕ) (c : Cursor) : JudgedCorrections → Type 0 where
-  whole : {v : ℤ} {d : Cursor} (vs : List ℤ) → Taken L s c vs d → v ≡ get_or vs place (pos 0) → ToldCorrections L place s c (OfCorrections.Whole v d)
-  no : {m : Refusal} {p : BitPos} → Refuses L s c (refusal_number m) p → ToldCorrections L place s c (OfCorrections.No m p)
+-- a list of such numbers stands at c: the value at a place and the number below a sought one are the list's own
+pub data ToldJudged {T : Type 0} (number : T → ℤ) (L : Layout (List ℤ)) (place sought : ℕ) (s : List ℕ) (c : Cursor) : Result (Judged T) Refused → Type 0 where
+  whole : {r : Judged T} (vs : List ℤ) → Taken L s c vs r.after → number r.value ≡ get_or vs place (pos 0) → r.below ≡ below sought vs → ToldJudged number L place sought s c (Ok r)
+  no : {r : Refused} → Refuses L s c (refusal_number r.why) r.at → ToldJudged number L place sought s c (Err r)
 
 -- the n values that stand at c have been put in front of an own list, whose rest has stayed; where they are refused, it may hold anything
-pub data ToldKept (L : Layout (List ℤ)) (n : ℕ) (s : List ℕ) (c : Cursor) (old new : List ℤ) : Kept → Type 0 where
-  whole : {d : Cursor} (vs : List ℤ) → Taken L s c vs d → length vs ≡ n → new ≡ vs ++ drop n old → ToldKept L n s c old new (OfKept.Whole d)
-  no : {m : Refusal} {p : BitPos} → Refuses L s c (refusal_number m) p → ToldKept L n s c old new (OfKept.No m p)
+pub data ToldKept (L : Layout (List ℤ)) (n : ℕ) (s : List ℕ) (c : Cursor) (old new : List ℤ) : Result Cursor Refused → Type 0 where
+  whole : {d : Cursor} (vs : List ℤ) → Taken L s c vs d → length vs ≡ n → new ≡ vs ++ drop n old → ToldKept L n s c old new (Ok d)
+  no : {r : Refused} → Refuses L s c (refusal_number r.why) r.at → ToldKept L n s c old new (Err r)

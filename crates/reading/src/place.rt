@@ -1,28 +1,23 @@
 // Where a reader reads.
 ghost use Rattle.reading.specs.Places.{ToldPlace};
 
+use crate::{Refusal, Refused};
 use bits::{BitPos, Cursor};
 use limits::LONGEST_BUFFER;
 
-// A cursor within the buffer, or that the positions are outside document 01's rule.
-#[derive(Clone, Copy)]
-pub enum Placed {
-    At(Cursor),
-    Outside,
-}
-
-pub fn span(s: &[u8], start: BitPos, stop: BitPos) -> Placed
+// A cursor within the buffer, unless the positions are outside document 01's rule.
+pub fn span(s: &[u8], start: BitPos, stop: BitPos) -> Result<Cursor, Refused>
     ensures { ToldPlace s.now start stop result }
 {
     let too_long = LONGEST_BUFFER < s.len();
     if too_long {
-        return Placed::Outside;
+        return Err(Refused::told_0(Refusal::Outside));
     }
     if stop.bit() < start.bit() {
-        return Placed::Outside;
+        return Err(Refused::told_0(Refusal::Outside));
     }
     if 8 * s.len() < stop.bit() {
-        return Placed::Outside;
+        return Err(Refused::told_0(Refusal::Outside));
     }
-    Placed::At(Cursor::new(start, stop))
+    Ok(Cursor::new(start, stop))
 }

@@ -1,5 +1,5 @@
 -- What stands next in a stream that has been checked.
-use Rattle.std.specs.Prelude.{◌≡◌, Bool, List, ◌++◌, ℕ, ◌+◌, ◌*◌, ◌≤◌, ◌<◌, ℤ, length, take}
+use Rattle.std.specs.Prelude.{◌≡◌, Result, Ok, Err, Bool, List, ◌++◌, ℕ, ◌+◌, ◌*◌, ◌≤◌, ◌<◌, ℤ, length, take}
 use Rattle.layout.specs.Bits.{window}
 use Rattle.layout.specs.Layout.{Takes}
 use Rattle.format.specs.Limits.{longest_buffer, longest_list}
@@ -13,8 +13,9 @@ use Rattle.bits.specs.declared.BitPos.{BitPos}
 use Rattle.headings.specs.Headings.{kind_of, headed}
 use Rattle.headings.specs.declared.Heading.{Heading}
 use Rattle.reading.specs.Refusals.{refusal_number}
-use Rattle.read_records.specs.declared.Read.{Read}
-use Rattle.read_records.specs.declared.Read.TheVariants.{Record, End, Refused}
+use Rattle.reading.specs.declared.Refused.{Refused}
+use Rattle.read_records.specs.declared.Found.{Found}
+use Rattle.read_records.specs.declared.Found.TheVariants.{Record, End}
 
 -- the bits from one on
 abbrev pub on_from : List ℕ → ℕ → List Bool
@@ -37,10 +38,9 @@ pub record Ahead (bytes : List ℕ) (at : ℕ) : Type 0 where
   pub on : GoesOn bytes (told_bit (8 * length bytes) rest)
 
 -- the reader's 7
-abbrev pub OtherKind : Read → Type 0
-OtherKind (Record h n p) = ⊥
-OtherKind (End p) = ⊥
-OtherKind (Refused m p) = refusal_number m ≡ 7
+abbrev pub OtherKind : Result Found Refused → Type 0
+OtherKind (Ok f) = ⊥
+OtherKind (Err r) = refusal_number r.why ≡ 7
 
 -- the list that the values of a record of this kind are filled into
 abbrev pub list_for : List ℤ → List ℤ → Kind → List ℤ
@@ -49,7 +49,7 @@ list_for values corrections Instants = values
 list_for values corrections Corrections = corrections
 
 -- the record that stands at a bit, after which the stream goes on, or the end mark; never a refusal
-pub data Next (bytes : List ℕ) (at : ℕ) (lists : Kind → List ℤ) : Read → Type 0 where
+pub data Next (bytes : List ℕ) (at : ℕ) (lists : Kind → List ℤ) : Result Found Refused → Type 0 where
   listed : {h : Heading} {n : ℕ} {p : BitPos} → Takes any_record (on_from bytes at) (headed h (take n (lists (kind_of h.kind)))) (on_from bytes p.0)
-      → n ≤ longest_list → at < p.0 → GoesOn bytes p.0 → Next bytes at lists (Record h n p)
-  ended : {p : BitPos} (rest : List Bool) → on_from bytes at ≡ end_mark ++ rest → p.0 ≡ at + 4 → Next bytes at lists (End p)
+      → n ≤ longest_list → at < p.0 → GoesOn bytes p.0 → Next bytes at lists (Ok (Record h n p))
+  ended : {p : BitPos} (rest : List Bool) → on_from bytes at ≡ end_mark ++ rest → p.0 ≡ at + 4 → Next bytes at lists (Ok (End p))

@@ -3,7 +3,6 @@
 #![tactic(auto)]
 
 ghost use Rattle.std.specs.Prelude.{◌≡◌, ◌+◌, ◌<◌, ◌≤◌, length, take, IfOk};
-ghost use Rattle.std.specs.Io.KnownBytes.{Consumes, IsAtEnd};
 ghost use Rattle.format.specs.Limits.{longest_buffer, longest_list};
 ghost use Rattle.lines.specs.Text.{longest_line};
 ghost use Rattle.show.specs.Next.{GoesOn};
@@ -12,10 +11,8 @@ ghost use Rattle.show.specs.Steps.{Begins};
 use bits::BitPos;
 use limits::{LONGEST_BUFFER, LONGEST_LIST};
 use lines::LONGEST_LINE;
-use read_streams::Checked;
-use records::Line;
+use reading::Refused;
 use std::io;
-use std::io::Read;
 
 mod records;
 
@@ -34,24 +31,18 @@ fn room_for_a_line() -> [u8; LONGEST_LINE]
     [0; LONGEST_LINE]
 }
 
-// How it begins: with a stream, or with so many bytes of a line that tells why there is none.
-#[derive(Clone, Copy)]
-enum Begun {
-    Stream,
-    Refused(usize),
-}
-
-// The stream is checked whole before anything is printed: a stream that is refused shows no record.
-fn begin(s: &[u8], out: &mut [u8]) -> Begun
+// The stream is checked whole before anything is printed: a stream that is refused shows no record. Where there is none, the error is how
+// many bytes the line has that tells why.
+fn begin(s: &[u8], out: &mut [u8]) -> Result<(), usize>
     requires { longest_line ≤ length out.old }
     ensures { Begins s.now out.new result }
 {
     match moortangle::stream::check(s) {
-        Checked::Stream(_, _) => Begun::Stream,
-        Checked::Refused(why, at) => {
-            let answer = reading::number(why);
+        Ok(_) => Ok(()),
+        Err(Refused { why, at }) => {
+            let answer = u32::from(why);
             let bit = at.bit() as u32;
-            Begun::Refused(lines::refusal(out, answer, bit))
+            Err(lines::refusal(out, answer, bit))
         }
     }
 }
@@ -73,16 +64,13 @@ fn print(
     requires goes_on { GoesOn s.now 0 × (longest_line ≤ length out.old) }
     requires longest_list_in_bounds { (longest_list ≤ length values.old) × (longest_list ≤ length corrections.old) }
 {
-    let mut at = BitPos::new(0);
-    loop {
-        match records::step(s, at, values, corrections, out) {
-            Line::More(bytes, after) => {
-                write(rt, out, bytes)?;
-                at = after;
-            }
-            Line::Last(bytes) => return write(rt, out, bytes),
-        }
+    let mut next = Some(BitPos::new(0));
+    while let Some(at) = next {
+        let line = records::step(s, at, values, corrections, out);
+        write(rt, out, line.bytes)?;
+        next = line.next;
     }
+    Ok(())
 }
 
 fn show(rt: &impl Print, s: &[u8]) -> io::Result<()> {
@@ -90,30 +78,13 @@ fn show(rt: &impl Print, s: &[u8]) -> io::Result<()> {
     let mut corrections = [0i32; LONGEST_LIST];
     let mut out = room_for_a_line();
     match begin(s, &mut out) {
-        Begun::Stream => print(rt, s, &mut values, &mut corrections, &mut out),
-        Begun::Refused(bytes) => write(rt, &out, bytes),
+        Ok(()) => print(rt, s, &mut values, &mut corrections, &mut out),
+        Err(bytes) => write(rt, &out, bytes),
     }
-}
-
-// What an input has, up to as many bytes as there is room for: how many those are.
-fn read_full<R: Read>(input: &mut R, room: &mut [u8]) -> io::Result<usize>
-    ensures within { IfOk result (λ n. n ≤ length room.new) }
-    ensures bytes { IfOk result (λ n. Consumes (R.remaining input.old) (R.remaining input.new) (take n room.new)) }
-    ensures whole { IfOk result (λ n. n < length room.new → IsAtEnd (R.remaining input.new)) }
-{
-    let mut count = 0;
-    while count < room.len() {
-        let more = input.read(&mut room[count..])?;
-        if more == 0 {
-            break;
-        }
-        count += more;
-    }
-    Ok(count)
 }
 
 fn main(rt: HostRuntime) -> io::Result<()> {
     let mut input = room();
-    let count = read_full(&mut rt.stdin(), &mut input)?;
+    let count = inputs::read_full(&mut rt.stdin(), &mut input)?;
     show(&rt, &input[..count])
 }

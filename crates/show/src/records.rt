@@ -9,27 +9,22 @@ ghost use Rattle.show.specs.Steps.{Gathered, Steps};
 
 use bits::BitPos;
 use headings::{Heading, Kind};
-use read_records::Read;
+use read_records::Found;
+use reading::{Refusal, Refused};
 
 // Whether an answer is something else than 7, so that no other kind has to be asked for.
-fn is_settled(r: Read) -> bool
-    ensures { Unless (OtherKind r) result }
+fn is_settled(answer: Result<Found, Refused>) -> bool
+    ensures { Unless (OtherKind answer) result }
 {
-    match r {
-        Read::Record(_, _, _) => true,
-        Read::End(_) => true,
-        Read::Refused(why, _) => {
-            if reading::number(why) == 7 {
-                return false;
-            }
-            true
-        }
+    match answer {
+        Ok(_) => true,
+        Err(refused) => refused.why != Refusal::Unknown,
     }
 }
 
 // What stands next. A record tells its kind, but a reader has to be asked for one: so each kind is asked for in turn. A reader
 // answers 7 before it reads the list if the record is of another kind, and in a stream that has been checked 7 means nothing else.
-fn next(s: &[u8], at: BitPos, values: &mut [u32], corrections: &mut [i32]) -> Read
+fn next(s: &[u8], at: BitPos, values: &mut [u32], corrections: &mut [i32]) -> Result<Found, Refused>
     requires { GoesOn s.now at.0 × (longest_list ≤ length values.old) × (longest_list ≤ length corrections.old) }
     ensures { Next s.now at.0 (list_for (map pos values.new) corrections.new) result }
 {
@@ -59,17 +54,16 @@ fn record_line(
 {
     let kind = h.kind;
     match kind {
-        Kind::Plain => lines::record(out, h, &values[..count]),
-        Kind::Instants => lines::record(out, h, &values[..count]),
-        Kind::Corrections => lines::record_of_corrections(out, h, &corrections[..count]),
+        Kind::Plain | Kind::Instants => lines::record(out, h, &values[..count]),
+        Kind::Corrections => lines::record(out, h, &corrections[..count]),
     }
 }
 
 // How many bytes a line has that was gathered, and the bit where the next one's record begins, unless it is the last line.
 #[derive(Clone, Copy)]
-pub(crate) enum Line {
-    More(usize, BitPos),
-    Last(usize),
+pub(crate) struct Line {
+    pub(crate) bytes: usize,
+    pub(crate) next: Option<BitPos>,
 }
 
 // The line of what stands next.
@@ -85,12 +79,21 @@ pub(crate) fn step(
     ensures { Steps s.now at.0 out.new result }
 {
     match next(s, at, values, corrections) {
-        Read::Record(h, count, after) => {
+        Ok(Found::Record(h, count, after)) => {
             let bytes = record_line(out, h, count, values, corrections);
-            Line::More(bytes, after)
+            Line {
+                bytes,
+                next: Some(after),
+            }
         }
-        Read::End(_) => Line::Last(lines::end(out)),
+        Ok(Found::End(_)) => Line {
+            bytes: lines::end(out),
+            next: None,
+        },
         // never, since the stream was checked: `next` does not refuse
-        Read::Refused(_, _) => Line::Last(0),
+        Err(_) => Line {
+            bytes: 0,
+            next: None,
+        },
     }
 }

@@ -1,2 +1,1 @@
 pub mod Wanted
-pub mod Laws

@@ -1,4 +1,4 @@
-// Which kinds a reader takes: the one that it asks for, and with the interpolative code instants alone.
+// Which kinds a reader takes: the one that it asks for, if it asks for one, and with the interpolative code instants alone.
 #![tactic(auto)]
 
 ghost use Rattle.format.specs.Records.{Wants};
@@ -8,19 +8,12 @@ ghost use Rattle.wanted.specs.Wanted.{wanted_of, Goes};
 
 use headings::{Code, Kind};
 
-// The kind that a reader asks for, or that it takes any.
-#[derive(Clone, Copy)]
-pub enum Wanted {
-    Any,
-    This(Kind),
-}
-
-pub fn unwanted(wanted: Wanted, kind: Kind) -> bool
+pub fn unwanted(wanted: Option<Kind>, kind: Kind) -> bool
     ensures { Unless (Wants (wanted_of wanted) (kind_of kind)) result }
 {
     match wanted {
-        Wanted::Any => false,
-        Wanted::This(asked) => headings::kind_number(kind) != headings::kind_number(asked),
+        Some(asked) => kind != asked,
+        None => false,
     }
 }
 
@@ -28,9 +21,9 @@ pub fn unwanted(wanted: Wanted, kind: Kind) -> bool
 pub fn amiss(code: Code, kind: Kind) -> bool
     ensures { Unless (Goes (code_of code) (kind_of kind)) result }
 {
-    let by_words = headings::code_number(code) != 5;
+    let by_words = code != Code::Interpolative;
     if by_words {
         return false;
     }
-    headings::kind_number(kind) != 1
+    kind != Kind::Instants
 }

@@ -6,26 +6,26 @@ ghost use Rattle.writing.specs.Wrote.{outcome_of};
 
 use bits::BitPos;
 use limits::LONGEST_BUFFER;
-use writing::Wrote;
+use writing::Unwritten;
 
-pub fn write_end(buf: &mut [u8], start: BitPos) -> Wrote
+pub fn write_end(buf: &mut [u8], start: BitPos) -> Result<BitPos, Unwritten>
     ensures { WritesEnd buf.old start.0 (outcome_of result) buf.new }
 {
     let bytes = buf.len();
     let at = start.bit();
     let too_long = LONGEST_BUFFER < bytes;
     if too_long {
-        return Wrote::Outside;
+        return Err(Unwritten::Outside);
     }
     if 8 * bytes < at {
-        return Wrote::Outside;
+        return Err(Unwritten::Outside);
     }
     let full = 8 * bytes - at < 4;
     if full {
-        return Wrote::Full;
+        return Err(Unwritten::Full);
     }
     // the mark's fourth zero tells the byte to whose end the zeros go
     let end = start.after(3).byte().end();
     pen::write::field(buf, at, end.bit() - at, 0);
-    Wrote::Done(end)
+    Ok(end)
 }

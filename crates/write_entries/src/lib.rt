@@ -1,4 +1,5 @@
-// A record written, or not: the public entries.
+// A record written, or not: the public entries. Code, parameter and kind are numbers, of which any gets its answer; C calls an entry for each
+// family.
 #![tactic(auto)]
 
 ghost use Rattle.std.specs.Prelude.{map, pos};
@@ -7,11 +8,9 @@ ghost use Rattle.format.specs.Writing.{Writes};
 ghost use Rattle.writing.specs.Wrote.{outcome_of};
 
 use bits::BitPos;
-use headings::Choice;
 use limits::{LONGEST_BUFFER, LONGEST_LIST};
-use lists::Judged;
-use write_records::Put;
-use writing::Wrote;
+use write_records::halves::Halved;
+use writing::Unwritten;
 
 // A list of plain values or of instants.
 pub fn write(
@@ -21,32 +20,10 @@ pub fn write(
     parameter: u32,
     kind: u32,
     values: &[u32],
-) -> Wrote
+) -> Result<BitPos, Unwritten>
     ensures { Writes buf.old start.0 Unsigned code parameter kind (map pos values.now) (outcome_of result) buf.new }
 {
-    if LONGEST_BUFFER < buf.len() {
-        return Wrote::Outside;
-    }
-    if 8 * buf.len() < start.bit() {
-        return Wrote::Outside;
-    }
-    match headings::choose(false, code, parameter, kind) {
-        Choice::Is(h) => {
-            if LONGEST_LIST < values.len() {
-                return Wrote::TooMany;
-            }
-            let chosen = h.kind;
-            match lists::unsigned::judge(headings::bodies::is_instants(chosen), values) {
-                Judged::Fine => match write_records::unsigned::put(buf, start, h, values) {
-                    Put::Done(next) => Wrote::Done(next),
-                    Put::Full => Wrote::Full,
-                },
-                Judged::Range(i) => Wrote::OutOfRange(i),
-                Judged::Falls(i) => Wrote::Falls(i),
-            }
-        }
-        Choice::Unknown => Wrote::Unknown,
-    }
+    write_list::<u32>(buf, start, code, parameter, kind, values)
 }
 
 // A list of corrections.
@@ -57,29 +34,33 @@ pub fn write_corrections(
     parameter: u32,
     kind: u32,
     values: &[i32],
-) -> Wrote
+) -> Result<BitPos, Unwritten>
     ensures { Writes buf.old start.0 Signed code parameter kind values.now (outcome_of result) buf.new }
 {
+    write_list::<i32>(buf, start, code, parameter, kind, values)
+}
+
+// A list of one family's values.
+fn write_list<T: Halved>(
+    buf: &mut [u8],
+    start: BitPos,
+    code: u32,
+    parameter: u32,
+    kind: u32,
+    values: &[T],
+) -> Result<BitPos, Unwritten>
+    ensures { Writes buf.old start.0 T.of_family code parameter kind (map T.number values.now) (outcome_of result) buf.new }
+{
     if LONGEST_BUFFER < buf.len() {
-        return Wrote::Outside;
+        return Err(Unwritten::Outside);
     }
     if 8 * buf.len() < start.bit() {
-        return Wrote::Outside;
+        return Err(Unwritten::Outside);
     }
-    match headings::choose(true, code, parameter, kind) {
-        Choice::Is(h) => {
-            if LONGEST_LIST < values.len() {
-                return Wrote::TooMany;
-            }
-            match lists::signed::judge(values) {
-                Judged::Fine => match write_records::signed::put(buf, start, h, values) {
-                    Put::Done(next) => Wrote::Done(next),
-                    Put::Full => Wrote::Full,
-                },
-                Judged::Range(i) => Wrote::OutOfRange(i),
-                Judged::Falls(i) => Wrote::Falls(i),
-            }
-        }
-        Choice::Unknown => Wrote::Unknown,
+    let h = headings::choose(T::family(), code, parameter, kind).ok_or(Unwritten::Unknown)?;
+    if LONGEST_LIST < values.len() {
+        return Err(Unwritten::TooMany);
     }
+    lists::judge(h.kind, values)?;
+    write_records::put(buf, start, h, values).ok_or(Unwritten::Full)
 }

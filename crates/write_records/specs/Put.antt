@@ -1,9 +1,8 @@
--- The number of document 01 that stands for a record written or not, and what it tells.
-use Rattle.std.specs.Prelude.{ℕ}
+-- The number of document 01 that stands for a record written or not, for want of room, and what it tells.
+use Rattle.std.specs.Prelude.{Option, Some, None, ℕ}
 use Rattle.format.specs.Answers.{Outcome, refuses, gives}
-use Rattle.write_records.specs.declared.Put.{Put}
-use Rattle.write_records.specs.declared.Put.TheVariants.{Done, Full}
+use Rattle.bits.specs.declared.BitPos.{BitPos}
 
-abbrev pub put_outcome : Put → Outcome ℕ
-put_outcome (Done p) = gives p.0
-put_outcome Full = refuses 5 0
+abbrev pub put_outcome : Option BitPos → Outcome ℕ
+put_outcome (Some p) = gives p.0
+put_outcome None = refuses 5 0

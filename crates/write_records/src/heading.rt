@@ -18,7 +18,7 @@ fn front(h: Heading) -> u32
 {
     let code = h.code;
     let kind = h.kind;
-    let both = headings::code_number(code) * 4 + headings::kind_number(kind);
+    let both = headings::code_number(code) * 4 + u32::from(kind);
     both * power(headings::parameter_width(code)) + headings::parameter(code)
 }
 

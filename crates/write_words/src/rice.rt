@@ -12,7 +12,7 @@ pub fn count(k: usize, w: u32) -> u64
     ensures { (result ≡ length (rice k w)) × (result ≤ 4294967326) }
 {
     let zeros = (w - 1) >> k;
-    zeros as u64 + 1 + k as u64
+    u64::from(zeros) + 1 + k as u64
 }
 
 pub fn write(buf: &mut [u8], pen: Pen, k: usize, w: u32) -> Pen

@@ -35,10 +35,8 @@ pub fn write(buf: &mut [u8], pen: Pen, w: u32) -> Pen
     requires { Word w × Room (variable_byte w) buf.old pen }
     ensures { Drawn (variable_byte w) buf.old pen buf.new result }
 {
-    let mut later = groups(w);
     let mut next = pen;
-    while 0 < later {
-        later -= 1;
+    for later in (0..groups(w)).rev() {
         next = next.field(buf, 8, unit(w, later));
     }
     next

@@ -1,17 +1,18 @@
 -- A reader "uses no bit from the stop on", nor one before the start: two buffers that agree between get the same answer and list.
-use Rattle.std.specs.Prelude.{◌≡◌, Bool, List, map, ℕ, ℤ, pos, length}
+use Rattle.std.specs.Prelude.{◌≡◌, Result, Bool, List, map, ℕ, ℤ, pos, length}
 use Rattle.layout.specs.Bits.{window}
 use Rattle.format.specs.Kinds.{Kind, Family, Unsigned, Signed}
 use Rattle.format.specs.Records.{This}
 use Rattle.format.specs.Answers.{Outcome, Span}
 use Rattle.format.specs.Reading.{Reader, asked_for, LookUp, LooksUp, Search, Searches}
 use Rattle.format.proofs.Laws.Reading.{entry_same, looks_up_one, searches_one}
-use Rattle.read_records.specs.declared.Read.{Read}
+use Rattle.reading.specs.declared.Refused.{Refused}
+use Rattle.read_records.specs.declared.Found.{Found}
 use Rattle.read_entries.specs.Reads.{ReadsInto}
 use Rattle.read_entries.specs.Laws.Unique.{read_one, read_corrections_one}
 
 module _ (bytes bytes' : List ℕ) (start stop : ℕ) (s : Span bytes start stop) (s' : Span bytes' start stop) (e : window bytes start stop ≡ window bytes' start stop) where
-  moved : {f : Family} {kind : ℕ} {old new : List ℤ} {a : Read} → ReadsInto bytes start stop f kind old a new → ReadsInto bytes' start stop f kind old a new
+  moved : {f : Family} {kind : ℕ} {old new : List ℤ} {a : Result Found Refused} → ReadsInto bytes start stop f kind old a new → ReadsInto bytes' start stop f kind old a new
   moved {old = old} x =
       record {
         reads = record {
@@ -21,11 +22,11 @@ module _ (bytes bytes' : List ℕ) (start stop : ℕ) (s : Span bytes start stop
         counted = x.counted;
       }
 
-  pub read_agrees : (kind : ℕ) (old new new' : List ℕ) (a b : Read)
+  pub read_agrees : (kind : ℕ) (old new new' : List ℕ) (a b : Result Found Refused)
       → ReadsInto bytes start stop Unsigned kind (map pos old) a (map pos new) → ReadsInto bytes' start stop Unsigned kind (map pos old) b (map pos new') → (a ≡ b) × (new ≡ new')
   read_agrees kind old new new' a b x y = read_one bytes' start stop kind old a b new new' (moved x) y
 
-  pub read_corrections_agrees : (kind : ℕ) (old new new' : List ℤ) (a b : Read) → ReadsInto bytes start stop Signed kind old a new → ReadsInto bytes' start stop Signed kind old b new' → (a ≡ b) × (new ≡ new')
+  pub read_corrections_agrees : (kind : ℕ) (old new new' : List ℤ) (a b : Result Found Refused) → ReadsInto bytes start stop Signed kind old a new → ReadsInto bytes' start stop Signed kind old b new' → (a ≡ b) × (new ≡ new')
   read_corrections_agrees kind old new new' a b x y = read_corrections_one bytes' start stop kind old a b new new' (moved x) y
 
   pub look_up_agrees : (f : Family) (kind place : ℕ) (x y : Outcome ℤ) → LooksUp bytes start stop f kind place x → LooksUp bytes' start stop f kind place y → x ≡ y

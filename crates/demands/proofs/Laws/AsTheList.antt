@@ -1,5 +1,5 @@
 -- Look-up and search answer as the whole list would.
-use Rattle.std.specs.Prelude.{◌≡◌, refl, Bool, true, false, List, [], ◌∷◌, ℕ, zero, suc, ◌+◌, ◌≤◌, ◌<◌, ltb, ℤ, pos, length, get_or, take}
+use Rattle.std.specs.Prelude.{◌≡◌, refl, Ok, Bool, true, false, List, [], ◌∷◌, ℕ, zero, suc, ◌+◌, ◌≤◌, ◌<◌, ltb, ℤ, pos, length, get_or, take}
 use Rattle.std.proofs.Common.{sym, ap, ap₂, ◌∙◌, le_refl, arith, get_or-take, take_all, length-take-le}
 use Rattle.std.proofs.Math.Decide.{dec_lt}
 use Rattle.format.specs.Kinds.{Instants, kind_number, Family, Unsigned, natural}
@@ -11,14 +11,14 @@ use Rattle.format.proofs.Laws.Outcomes.{looks_up_listed, looks_up_beyond, search
 use Rattle.bits.specs.declared.BitPos.{BitPos}
 use Rattle.headings.specs.Headings.{headed}
 use Rattle.headings.specs.declared.Heading.{Heading}
-use Rattle.read_records.specs.declared.Read.TheVariants as OfRead
+use Rattle.read_records.specs.declared.Found.TheVariants as OfFound
 use Rattle.read_entries.specs.Reads.{ReadsInto}
 use Rattle.demands.specs.Calls.{places_below}
 
 -- ---- of a record that `read` gives
 
 module _ {bytes : List ℕ} {start stop : ℕ} {f : Family} {kind : ℕ} {old new : List ℤ} {h : Heading} {n : ℕ} {p : BitPos}
-    (r : ReadsInto bytes start stop f kind old (OfRead.Record h n p) new) where
+    (r : ReadsInto bytes start stop f kind old (Ok (OfFound.Record h n p)) new) where
   as_many : length (take n new) ≡ n
   as_many = length-take-le n new r.counted
 
@@ -33,7 +33,7 @@ module _ {bytes : List ℕ} {start stop : ℕ} {f : Family} {kind : ℕ} {old ne
       looks_up_one bytes start stop f kind place x (refuses 13 0) l
       (looks_up_beyond bytes start stop f kind old (headed h (take n new)) p.0 new r.reads place (omega (arith, as_many)))
 
-pub search_as_listed : {bytes : List ℕ} {start stop : ℕ} {old new : List ℤ} {h : Heading} {n : ℕ} {p : BitPos} → ReadsInto bytes start stop Unsigned (kind_number Instants) old (OfRead.Record h n p) new
+pub search_as_listed : {bytes : List ℕ} {start stop : ℕ} {old new : List ℤ} {h : Heading} {n : ℕ} {p : BitPos} → ReadsInto bytes start stop Unsigned (kind_number Instants) old (Ok (OfFound.Record h n p)) new
     → (sought : ℕ) (x : Outcome ℕ) → Searches bytes start stop sought x → x ≡ gives (below sought (take n new))
 search_as_listed {bytes} {start} {stop} {old} {new} {h} {n} {p} r sought x l =
     searches_one bytes start stop sought x (gives (below sought (take n new))) l (searches_listed bytes start stop old (headed h (take n new)) p.0 new r.reads sought)

@@ -1,5 +1,5 @@
 -- What was written is read back, and what was read, written again with the told heading, gives the same bits.
-use Rattle.std.specs.Prelude.{◌≡◌, refl, Bool, List, ◌++◌, ℕ, ◌+◌, ◌-◌, ◌*◌, ◌≤◌, ℤ, length, take, drop}
+use Rattle.std.specs.Prelude.{◌≡◌, refl, Result, Ok, Bool, List, ◌++◌, ℕ, ◌+◌, ◌-◌, ◌*◌, ◌≤◌, ℤ, length, take, drop}
 use Rattle.std.proofs.Common.{sym, ap, ◌∙◌, arith, length-append, take-add, drop_at, take_at, length-take-le}
 use Rattle.std.proofs.Math.Seq.{length-slice}
 use Rattle.layout.specs.Bits.{bits_of, window}
@@ -18,15 +18,16 @@ use Rattle.bits.specs.declared.BitPos.{BitPos}
 use Rattle.headings.specs.Headings.{code_of, carried, headed}
 use Rattle.headings.specs.declared.Heading.{Heading}
 use Rattle.read_records.specs.Told.{item_of}
-use Rattle.read_records.specs.declared.Read.{Read}
-use Rattle.read_records.specs.declared.Read.TheVariants as OfRead
+use Rattle.reading.specs.declared.Refused.{Refused}
+use Rattle.read_records.specs.declared.Found.{Found}
+use Rattle.read_records.specs.declared.Found.TheVariants as OfFound
 use Rattle.read_entries.specs.Reads.{ReadsInto}
 use Rattle.demands.specs.Calls.{Back}
 
 -- ---- read after write: the list comes back, equal instants as two, with code, kind and parameter, 0 where the code has none
 
 pub read_back : (bytes : List ℕ) (start : ℕ) (f : Family) (code parameter kind : ℕ) (values : List ℤ) (p : ℕ) (after : List ℕ) → Writes bytes start f code parameter kind values (gives p) after
-    → (old new : List ℤ) (r : Read) → length values ≤ length old → ReadsInto after start p f kind old r new → Back code parameter kind values old p r new
+    → (old new : List ℤ) (r : Result Found Refused) → length values ≤ length old → ReadsInto after start p f kind old r new → Back code parameter kind values old p r new
 read_back bytes start f code parameter kind values p after w old new r room x =
     let b = reads_back bytes start f code parameter kind values p after old w room in
     let (e, g) = reads_one after start p f kind old (item_of r new) (gives (listed b.entry p)) new (values ++ drop (length values) old) x.reads b.reads in
@@ -54,7 +55,7 @@ stands bytes start p after r h w =
     ∙ ap (λ (l : List Bool). drop start (take (start + length (any_record.bits r)) l)) w.left
     ∙ put_window (bits_of bytes) start (any_record.bits r) (omega (arith, length_bits_of bytes, w.told, w.inside))
 
-module _ {bytes : List ℕ} {start stop : ℕ} {f : Family} {kind : ℕ} {old new : List ℤ} {h : Heading} {n : ℕ} {p : BitPos} (x : ReadsInto bytes start stop f kind old (OfRead.Record h n p) new) where
+module _ {bytes : List ℕ} {start stop : ℕ} {f : Family} {kind : ℕ} {old new : List ℤ} {h : Heading} {n : ℕ} {p : BitPos} (x : ReadsInto bytes start stop f kind old (Ok (OfFound.Record h n p)) new) where
   told_record : Accepted bytes start stop f kind old (headed h (take n new)) p.0 new
   told_record = reads_accepted bytes start stop f kind old (headed h (take n new)) p.0 new x.reads
 

@@ -1,5 +1,5 @@
 -- Records written in turn and the end mark are a stream: it is checked, and read through to its end.
-use Rattle.std.specs.Prelude.{◌≡◌, refl, Bool, false, List, [], ◌∷◌, ◌++◌, ℕ, ◌+◌, ◌-◌, ◌*◌, ◌/◌, ◌≤◌, ℤ, length, take, drop}
+use Rattle.std.specs.Prelude.{◌≡◌, refl, Result, Ok, Bool, false, List, [], ◌∷◌, ◌++◌, ℕ, ◌+◌, ◌-◌, ◌*◌, ◌/◌, ◌≤◌, ℤ, length, take, drop}
 use Rattle.std.proofs.Common.{sym, ap, ap₂, ◌∙◌, subst, subst₂, append_assoc, arith, length-append, take-append-drop, take_at, drop_at, drop-drop, take-take, length-take-le}
 use Rattle.std.proofs.lemmas.List.{length-replicate}
 use Rattle.std.proofs.Math.Seq.{length-slice}
@@ -19,14 +19,13 @@ use Rattle.format.proofs.Laws.Reading.{reads_one, checks_one}
 use Rattle.format.proofs.Laws.Outcomes.{accepted_reads}
 use Rattle.format.proofs.Laws.Streams.{stream_checks}
 use Rattle.bits.specs.declared.BitPos.{BitPos}
+use Rattle.reading.specs.declared.Refused.{Refused}
 use Rattle.read_records.specs.Told.{item_of}
 use Rattle.read_records.specs.Laws.Answers.{item_same}
-use Rattle.read_records.specs.declared.Read.TheVariants as OfRead
+use Rattle.read_records.specs.declared.Found.TheVariants as OfFound
 use Rattle.read_streams.specs.Told.{checked}
 use Rattle.read_streams.specs.Laws.Same.{checked_same}
 use Rattle.read_streams.specs.declared.Checked.{Checked}
-use Rattle.read_streams.specs.declared.Checked.TheVariants as OfChecked
-use Rattle.writing.specs.declared.Wrote.TheVariants.{Done}
 use Rattle.demands.specs.Calls.{Call, WrittenInTurn, values_of, ReadInTurn}
 use Rattle.writing.specs.Wrote.{outcome_of}
 use Rattle.demands.proofs.Laws.InTurn.{AskInTurn, InARow, in_a_row, all_valid}
@@ -83,7 +82,7 @@ module _ (bytes : List ℕ) (stop : ℕ) where
       let parts = ap length e ∙ length-append end_mark rest in
       let p : at + 4 ≡ stop - length rest = omega arith in
       let (x, y) = reads_one bytes at stop f kind old (item_of r new) (gives (Reading.ended (at + 4))) new old h.reads (record { answer = Reading.reading span t told (Reading.ends e p); list = refl }) in
-      (item_same r (OfRead.End (record { 0 = at + 4 })) new new h.counted tt x, y)
+      (item_same r (Ok (OfFound.End (record { 0 = at + 4 }))) new new h.counted tt x, y)
   in_turn [] (r ∷ rs) a at span rest e = absurd a
   in_turn (q ∷ qs) [] a at span rest e = absurd a
   in_turn (q ∷ qs) (r ∷ rs) a at span rest e =
@@ -108,7 +107,7 @@ module _ (bytes : List ℕ) (stop : ℕ) where
         in_turn qs rs a.1 p (record { small = span.small; order = omega arith; inside = inside }) rest next,
       )
 
-module _ {qs : List Call} {bytes middle : List ℕ} {next : ℕ} (written : WrittenInTurn qs bytes 0 middle next) (end : BitPos) (after : List ℕ) (mark : WritesEnd middle next (outcome_of (Done end)) after) where
+module _ {qs : List Call} {bytes middle : List ℕ} {next : ℕ} (written : WrittenInTurn qs bytes 0 middle next) (end : BitPos) (after : List ℕ) (mark : WritesEnd middle next (outcome_of (Ok end)) after) where
   in_front : InARow qs bytes 0 middle next
   in_front = in_a_row written
 
@@ -123,7 +122,7 @@ module _ {qs : List Call} {bytes middle : List ℕ} {next : ℕ} (written : Writ
       put_both (bits_of bytes) image (end_image next) 0 (length image) (omega arith) refl in_front.left (marked.left ∙ ap (λ (k : ℕ). put (bits_of middle) k (end_image next)) in_front.told)
 
   -- the check of exactly the bytes up to the told bit gives the numbers of records and of values
-  pub check_written : (a : Checked) → Checks (take (end.0 / 8) after) (checked a) → a ≡ OfChecked.Stream (length qs) (values_of qs)
+  pub check_written : (a : Result Checked Refused) → Checks (take (end.0 / 8) after) (checked a) → a ≡ Ok (record { records = length qs; values = values_of qs })
   check_written a h =
       let told = in_front.told in
       let pad : ℕ = to_byte_end (next + 4) in
@@ -146,7 +145,7 @@ module _ {qs : List Call} {bytes middle : List ℕ} {next : ℕ} (written : Writ
       let (records, values) = as_many qs in_front.rs in_front.asked in
       let small = marked.place.small in
       let short : length (take (end.0 / 8) after) ≤ longest_buffer = let k = length-take-le (end.0 / 8) after (omega arith) in omega arith in
-      checked_same a (OfChecked.Stream (length qs) (values_of qs))
+      checked_same a (Ok (record { records = length qs; values = values_of qs }))
       (checks_one (take (end.0 / 8) after) (checked a) (gives (length qs, values_of qs)) h
       (subst₂ (λ (i j : ℕ). Checks (take (end.0 / 8) after) (gives (i, j))) records values
       (stream_checks in_front.rs (take (end.0 / 8) after) (all_valid qs in_front.rs in_front.asked) short bits)))

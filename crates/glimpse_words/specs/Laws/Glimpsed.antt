@@ -1,6 +1,6 @@
 -- Words by their leading zeros, at the top of 64 bits.
-use Rattle.std.specs.Prelude.{◌≡◌, refl, Bool, true, false, List, ◌∷◌, ◌++◌, ℕ, zero, suc, ◌+◌, ◌-◌, ◌*◌, ◌/◌, ◌%◌, ◌^◌, ◌≤◌, ◌<◌, length, take, drop}
-use Rattle.std.proofs.Common.{sym, ap, ap₂, ◌∙◌, subst, subst₂, append-nil, mod-lt, div-one, add-mul, one-mul, mul-le-mul_right, arith, pow_pos, pow-add, pow_mono, shr_lt, shr-shr}
+use Rattle.std.specs.Prelude.{◌≡◌, refl, Option, Some, Bool, true, false, List, ◌∷◌, ◌++◌, ℕ, zero, suc, ◌+◌, ◌-◌, ◌*◌, ◌/◌, ◌%◌, ◌^◌, ◌≤◌, ◌<◌, length, take, drop}
+use Rattle.std.proofs.Common.{sym, ap, ap₂, ◌∙◌, subst, append-nil, mod-lt, div-one, add-mul, one-mul, mul-le-mul_right, arith, pow_pos, pow-add, pow_mono, shr_lt, shr-shr}
 use Rattle.std.proofs.Math.Nat.{div-div-eq-div-mul}
 use Rattle.std.proofs.Math.Decide.{dec_lt}
 use Rattle.std.specs.Int.Count.{count_leading_zeros}
@@ -11,6 +11,7 @@ use Rattle.layout.specs.Layout.{word}
 use Rattle.layout.specs.Laws.Bits.{val}
 use Rattle.layout.proofs.Laws.Bits.{front_is, in_bits_split, in_bits_cat, in_bits_mod}
 use Rattle.layout.proofs.Laws.Windows.{zeros_lead}
+use Rattle.format.specs.Limits.{largest_word}
 use Rattle.format.specs.Codes.{Word, size, binary, gamma, delta, rice, groups, variable_byte}
 use Rattle.format.proofs.Laws.Codes.{sized, grouped_word}
 use Rattle.format.proofs.Laws.Digits.{held_one}
@@ -18,7 +19,13 @@ use Rattle.bits.specs.Cursor.{Within, left, onward, Taken}
 use Rattle.bits.specs.Laws.Cursor.{length_left, left_front, left_onward, onward_within}
 use Rattle.bits.specs.Look.{Looked}
 use Rattle.bits.specs.declared.Cursor.{Cursor}
-use Rattle.glimpse_words.specs.Glimpsed.{Glimpsed, unsettled, seen, GlimpsedAt, Settled}
+use Rattle.glimpse_words.specs.Glimpsed.{Glimpsed, seen, GlimpsedAt, Settled, settled}
+use Rattle.glimpse_words.specs.declared.Glimpse.{Glimpse}
+
+-- a word that was seen, told of the answer
+pub seen_as : {image : ℕ → List Bool} {n : ℕ} {r : Option Glimpse} (w bits : ℕ) → Word w → bits ≤ 57 → image w ≡ in_bits bits (n / 2 ^ (64 - bits))
+    → r ≡ Some (record { word = w; bits = bits }) → Glimpsed image n r
+seen_as w bits v l i e = rw e (seen v l i)
 
 -- ---- the first digits of a number, by its leading zeros
 
@@ -53,6 +60,9 @@ module _ (n : ℕ) (some : 0 < n) (fits : n < 2 ^ 64) where
       let i : j ≡ k + e = omega arith in
       top_part n k e (subst (λ (x : ℕ). 2 ^ x ≤ n) i a) (subst (λ (x : ℕ). n < 2 ^ suc x) i b)
 
+  pub zeros_to_63 : count_leading_zeros 64 n ≤ 63
+  zeros_to_63 = zeros_few 0 (omega arith) some
+
 -- ---- gamma
 
 gamma_whole : (x z : ℕ) → Word x → size x ≡ suc z → gamma x ≡ in_bits (2 * z + 1) x
@@ -75,6 +85,9 @@ gamma_seen n z h f e =
     let m = pow_mono {i = suc z} {j = 32} (omega arith) in
     let (w, s) = size_of (n / 2 ^ (64 - (2 * z + 1))) z a b (omega arith) in
     (omega arith, w, gamma_whole (n / 2 ^ (64 - (2 * z + 1))) z w s)
+
+pub gamma_within : (n : ℕ) → 2 ^ 35 ≤ n → n < 2 ^ 64 → (count_leading_zeros 64 n ≤ 28) × (n / 2 ^ (64 - (2 * count_leading_zeros 64 n + 1)) ≤ largest_word)
+gamma_within n h f = let (few, w, e) = gamma_seen n _ h f refl in (few, w.1)
 
 -- ---- Rice
 
@@ -125,6 +138,10 @@ rice_seen n z k one p h f e l =
     subst
     (λ (o : ℕ). (o ≤ n / 2 ^ (64 - (z + 1 + k))) × Word (z * o + (n / 2 ^ (64 - (z + 1 + k)) - o) + 1) × (rice k (z * o + (n / 2 ^ (64 - (z + 1 + k)) - o) + 1) ≡ in_bits (z + 1 + k) (n / 2 ^ (64 - (z + 1 + k)))))
     (sym p) (rice_parts n z k h f e l)
+
+pub rice_within : (n k one : ℕ) → one ≡ 2 ^ k → 0 < n → n < 2 ^ 64 → count_leading_zeros 64 n + 1 + k ≤ 32
+    → (one ≤ n / 2 ^ (64 - (count_leading_zeros 64 n + 1 + k))) × (count_leading_zeros 64 n * one + (n / 2 ^ (64 - (count_leading_zeros 64 n + 1 + k)) - one) + 1 ≤ largest_word)
+rice_within n k one p h f l = let (a, w, e) = rice_seen n _ k one p h f refl l in (a, w.1)
 
 -- ---- variable-byte
 
@@ -202,21 +219,21 @@ byte_before k y = ap (λ (x : List Bool). x ++ in_bits k y) (in_bits_mod 8 (y / 
 two_bytes : (y : ℕ) → in_bits 8 (y / 2 ^ 8) ++ in_bits 8 (y % 2 ^ 8) ≡ in_bits 16 y
 two_bytes y = ap (λ (x : List Bool). in_bits 8 (y / 2 ^ 8) ++ x) (in_bits_mod 8 y) ∙ sym (in_bits_split 8 8 y)
 
-module _ {n r : ℕ} where
-  pub group_seen : 0 < n / 2 ^ 56 → n / 2 ^ 56 < 128 → r ≡ n / 2 ^ 56 * 64 + 8 → Glimpsed variable_byte n r
+module _ {n : ℕ} {r : Option Glimpse} where
+  pub group_seen : 0 < n / 2 ^ 56 → n / 2 ^ 56 < 128 → r ≡ Some (record { word = n / 2 ^ 56; bits = 8 }) → Glimpsed variable_byte n r
   group_seen h l e =
       let g : ℕ = n / 2 ^ 56 in
       let v : Word g = (h, omega arith) in
-      seen g 8 v (omega arith) (of_groups g 0 v h (omega arith) ∙ last_group g g l (omega arith)) e
+      seen_as g 8 v (omega arith) (of_groups g 0 v h (omega arith) ∙ last_group g g l (omega arith)) e
 
   -- the first group is one that others follow
   module _ (h : (128 < n / 2 ^ 56) × (n / 2 ^ 56 < 256)) where
-    pub two_seen : n / 2 ^ 48 % 256 < 128 → r ≡ ((n / 2 ^ 56 - 128) * 128 + n / 2 ^ 48 % 256) * 64 + 16 → Glimpsed variable_byte n r
+    pub two_seen : n / 2 ^ 48 % 256 < 128 → r ≡ Some (record { word = (n / 2 ^ 56 - 128) * 128 + n / 2 ^ 48 % 256; bits = 16 }) → Glimpsed variable_byte n r
     two_seen l e =
         let (v, i) = two_groups _ (n / 2 ^ 56) (n / 2 ^ 48 % 256) h.0 h.1 l refl in
-        seen _ 16 v (omega arith) (i ∙ ap (λ (x : ℕ). in_bits 8 x ++ in_bits 8 (n / 2 ^ 48 % 256)) (sym (shr-shr n 48 8)) ∙ two_bytes (n / 2 ^ 48)) e
+        seen_as _ 16 v (omega arith) (i ∙ ap (λ (x : ℕ). in_bits 8 x ++ in_bits 8 (n / 2 ^ 48 % 256)) (sym (shr-shr n 48 8)) ∙ two_bytes (n / 2 ^ 48)) e
 
-    pub three_seen : 128 ≤ n / 2 ^ 48 % 256 → n / 2 ^ 40 % 256 < 128 → r ≡ (((n / 2 ^ 56 - 128) * 128 + (n / 2 ^ 48 % 256 - 128)) * 128 + n / 2 ^ 40 % 256) * 64 + 24 → Glimpsed variable_byte n r
+    pub three_seen : 128 ≤ n / 2 ^ 48 % 256 → n / 2 ^ 40 % 256 < 128 → r ≡ Some (record { word = ((n / 2 ^ 56 - 128) * 128 + (n / 2 ^ 48 % 256 - 128)) * 128 + n / 2 ^ 40 % 256; bits = 24 }) → Glimpsed variable_byte n r
     three_seen m l e =
         let y : ℕ = n / 2 ^ 40 in
         let (v, i) = three_groups _ (n / 2 ^ 56) (n / 2 ^ 48 % 256) (y % 256) h.0 h.1 m (mod-lt (n / 2 ^ 48) (omega arith)) l refl in
@@ -225,10 +242,10 @@ module _ {n r : ℕ} where
         ∙ ap₂ (λ (a b : ℕ). in_bits 8 a ++ (in_bits 8 (b % 256) ++ in_bits 8 (y % 256))) (sym (shr-shr n 40 16)) (sym (shr-shr n 40 8))
         ∙ ap (λ (x : List Bool). in_bits 8 (y / 2 ^ 16) ++ x) (ap (λ (x : List Bool). x ++ in_bits 8 (y % 256)) (in_bits_mod 8 (y / 2 ^ 8)) ∙ two_bytes y)
         ∙ sym (in_bits_split 8 16 y) in
-        seen _ 24 v (omega arith) whole e
+        seen_as _ 24 v (omega arith) whole e
 
     pub four_seen : 128 ≤ n / 2 ^ 48 % 256 → 128 ≤ n / 2 ^ 40 % 256 → n / 2 ^ 32 % 256 < 128
-        → r ≡ ((((n / 2 ^ 56 - 128) * 128 + (n / 2 ^ 48 % 256 - 128)) * 128 + (n / 2 ^ 40 % 256 - 128)) * 128 + n / 2 ^ 32 % 256) * 64 + 32 → Glimpsed variable_byte n r
+        → r ≡ Some (record { word = (((n / 2 ^ 56 - 128) * 128 + (n / 2 ^ 48 % 256 - 128)) * 128 + (n / 2 ^ 40 % 256 - 128)) * 128 + n / 2 ^ 32 % 256; bits = 32 }) → Glimpsed variable_byte n r
     four_seen m p l e =
         let y : ℕ = n / 2 ^ 32 in
         let (v, i) = four_groups _ (n / 2 ^ 56) (n / 2 ^ 48 % 256) (n / 2 ^ 40 % 256) (y % 256) h.0 h.1 m (mod-lt (n / 2 ^ 48) (omega arith)) p (mod-lt (n / 2 ^ 40) (omega arith)) l refl in
@@ -236,7 +253,7 @@ module _ {n r : ℕ} where
         ap₂ (λ (a : ℕ) (x : List Bool). in_bits 8 (a % 256) ++ x) (sym (shr-shr n 32 8)) (in_bits_mod 8 y) ∙ byte_before 8 y in
         let three : in_bits 8 (n / 2 ^ 48 % 256) ++ (in_bits 8 (n / 2 ^ 40 % 256) ++ in_bits 8 (y % 256)) ≡ in_bits 24 y =
         ap₂ (λ (a : ℕ) (x : List Bool). in_bits 8 (a % 256) ++ x) (sym (shr-shr n 32 16)) last ∙ byte_before 16 y in
-        seen _ 32 v (omega arith) (i ∙ ap₂ (λ (a : ℕ) (x : List Bool). in_bits 8 a ++ x) (sym (shr-shr n 32 24)) three ∙ sym (in_bits_split 8 24 y)) e
+        seen_as _ 32 v (omega arith) (i ∙ ap₂ (λ (a : ℕ) (x : List Bool). in_bits 8 a ++ x) (sym (shr-shr n 32 24)) three ∙ sym (in_bits_split 8 24 y)) e
 
 -- ---- delta
 
@@ -249,6 +266,10 @@ length_seen n z h f e =
     let m = pow_mono {i = suc z} {j = 6} (omega arith) in
     let (w, s) = size_of (n / 2 ^ (64 - (2 * z + 1))) z a b (omega arith) in
     (omega arith, w.0, omega arith, gamma_whole (n / 2 ^ (64 - (2 * z + 1))) z w s)
+
+pub length_within : (n : ℕ) → 2 ^ 58 ≤ n → n < 2 ^ 64
+    → (count_leading_zeros 64 n ≤ 5) × (1 ≤ n / 2 ^ (64 - (2 * count_leading_zeros 64 n + 1))) × (n / 2 ^ (64 - (2 * count_leading_zeros 64 n + 1)) ≤ 63)
+length_within n h f = let (few, some, most, e) = length_seen n _ h f refl in (few, some, most)
 
 -- what stands after the first a of 64 digits, moved to their top: its first l digits, of which e follow
 moved_digits : (n a l e : ℕ) → a + (l + e) ≡ 64 → n * 2 ^ a % 2 ^ 64 / 2 ^ (64 - l) ≡ n / 2 ^ e % 2 ^ l
@@ -293,21 +314,30 @@ delta_seen n z l d a e p q g f h =
     let m = ap (λ (x : ℕ). x / 2 ^ (64 - l)) f ∙ moved_digits n (2 * z + 1) l (64 - (2 * z + 1 + l)) i in
     delta_whole n z l (d / 2 ^ (64 - l)) a e p q g m (top_one d l p (omega arith) h)
 
+pub delta_within : (n : ℕ) → 2 ^ 58 ≤ n → n < 2 ^ 64 → n / 2 ^ (64 - (2 * count_leading_zeros 64 n + 1)) ≤ 32 → 2 ^ 63 ≤ n * 2 ^ (2 * count_leading_zeros 64 n + 1) % 2 ^ 64
+    → n * 2 ^ (2 * count_leading_zeros 64 n + 1) % 2 ^ 64 / 2 ^ (64 - n / 2 ^ (64 - (2 * count_leading_zeros 64 n + 1))) ≤ largest_word
+delta_within n h f l d =
+    let (few, some, most, image) = length_seen n _ h f refl in
+    let (w, e) = delta_seen n _ _ _ few refl some l image refl d in
+    w.1
+
 -- ---- a word that was seen stands at the cursor
 
-module _ {image : ℕ → List Bool} (s : List ℕ) (c : Cursor) (h : Within c (length s)) (q : ℕ) (room : q % 64 ≤ c.stop.0 - c.at.0) where
-  seen_taken : (n : ℕ) → Looked s c.at.0 n → Glimpsed image n q → Settled image s c q
-  seen_taken n look (unsettled e) k = absurd (k e)
-  seen_taken n look (seen w bits v l i e) k =
-      let a : q / 64 ≡ w = omega arith in
-      let b : q % 64 ≡ bits = omega arith in
-      let m : bits ≤ c.stop.0 - c.at.0 = omega arith in
-      let first : n / 2 ^ (64 - bits) ≡ val (take bits (left c s)) = look.front bits l (omega (arith, h.order, h.inside)) ∙ ap val (sym (left_front s c h bits m)) in
-      let whole : left c s ≡ image w ++ drop bits (left c s) =
-      front_is bits (left c s) (omega (arith, length_left s c h)) ∙ ap (λ (x : List Bool). x ++ drop bits (left c s)) (sym (i ∙ ap (in_bits bits) first)) in
-      let t : Taken (word Word image) s c w (onward c bits) =
-      record { takes = record { valid = v; front = whole ∙ ap (λ (x : List Bool). image w ++ x) (sym (left_onward s c h bits)) }; within = onward_within s c h bits m; stop = refl } in
-      (omega (arith, v.1), subst₂ (λ (x y : ℕ). Taken (word Word image) s c x (onward c y)) (sym a) (sym b) t)
+module _ {image : ℕ → List Bool} (s : List ℕ) (c : Cursor) (h : Within c (length s)) (g : Glimpse) (room : g.bits ≤ c.stop.0 - c.at.0) where
+  seen_taken : (n : ℕ) → Looked s c.at.0 n → Glimpsed image n (Some g) → Settled image s c (Some g)
+  seen_taken n look (seen v l i) =
+      let first : n / 2 ^ (64 - g.bits) ≡ val (take g.bits (left c s)) = look.front g.bits l (omega (arith, h.order, h.inside)) ∙ ap val (sym (left_front s c h g.bits room)) in
+      let whole : left c s ≡ image g.word ++ drop g.bits (left c s) =
+      front_is g.bits (left c s) (omega (arith, length_left s c h)) ∙ ap (λ (x : List Bool). x ++ drop g.bits (left c s)) (sym (i ∙ ap (in_bits g.bits) first)) in
+      settled
+      (record {
+        takes = record { valid = v; front = whole ∙ ap (λ (x : List Bool). image g.word ++ x) (sym (left_onward s c h g.bits)) };
+        within = onward_within s c h g.bits room;
+        stop = refl;
+      })
 
-  pub glimpsed_taken : (at : ℕ) → at ≡ c.at.0 → GlimpsedAt image s at q → Settled image s c q
-  glimpsed_taken at e g = seen_taken g.n (subst (λ (x : ℕ). Looked s x g.n) e g.look) g.told
+  pub glimpsed_taken : (at : ℕ) → at ≡ c.at.0 → GlimpsedAt image s at (Some g) → Settled image s c (Some g)
+  glimpsed_taken at e t = seen_taken t.n (subst (λ (x : ℕ). Looked s x t.n) e t.look) t.told
+
+pub settled_taken : {image : ℕ → List Bool} {s : List ℕ} {c : Cursor} {g : Glimpse} → Settled image s c (Some g) → Taken (word Word image) s c g.word (onward c g.bits)
+settled_taken (settled t) = t

@@ -1,5 +1,5 @@
 -- Each code's body, by its words or by halves; and which kind is which.
-use Rattle.std.specs.Prelude.{◌≡◌, refl, Bool, true, false, ℕ, ◌≤◌}
+use Rattle.std.specs.Prelude.{◌≡◌, refl, Some, None, Bool, true, false, ℕ, ◌≤◌}
 use Rattle.std.proofs.Common.{sym, ap, ◌∙◌, subst, arith}
 use Rattle.layout.specs.Layout.{PrefixFree}
 use Rattle.format.specs.Limits.{largest_parameter}
@@ -16,21 +16,17 @@ use Rattle.headings.specs.declared.Kind.{Kind}
 use Rattle.headings.specs.declared.Kind.TheVariants.{Plain, Instants, Corrections}
 use Rattle.headings.specs.declared.bodies.Words.{Words}
 use Rattle.headings.specs.declared.bodies.Words.TheVariants.{Gamma, Delta, Rice, VariableByte}
-use Rattle.headings.specs.declared.bodies.Body.{Body}
-use Rattle.headings.specs.declared.bodies.Body.TheVariants.{ByWords, ByHalves}
 
 -- ---- which way a code goes
 
-pub rice_body : (c : Code) (k : ℕ) → c ≡ OfCode.Rice k → carried c ≤ largest_parameter → ToldBody c (ByWords (Rice k))
+pub rice_body : (c : Code) (k : ℕ) → c ≡ OfCode.Rice k → carried c ≤ largest_parameter → ToldBody c (Some (Rice k))
 rice_body c k e h = words {w = Rice k} (subst (λ (x : Code). carried x ≤ largest_parameter) e h) e
 
-pub was_words : {c : Code} {r : Body} {w : Words} → ToldBody c r → r ≡ ByWords w → Known w × (c ≡ code_for w)
-was_words {c} {w = w} (words {w = v} h k) e = let f : v ≡ w = cc in subst (λ (x : Words). Known x × (c ≡ code_for x)) f (h, k)
-was_words (halves h) e = let z : ◌≡◌ {A = ℕ} 0 1 = cc in absurd (omega arith)
+pub was_words : {c : Code} {w : Words} → ToldBody c (Some w) → Known w × (c ≡ code_for w)
+was_words (words h k) = (h, k)
 
-pub was_halves : {c : Code} {r : Body} → ToldBody c r → r ≡ ByHalves → c ≡ OfCode.Interpolative
-was_halves (words h k) e = let z : ◌≡◌ {A = ℕ} 0 1 = cc in absurd (omega arith)
-was_halves (halves h) e = h
+pub was_halves : {c : Code} → ToldBody c None → c ≡ OfCode.Interpolative
+was_halves (halves h) = h
 
 -- a code of words has the words in order as its body
 pub words_body : (w : Words) (c : Code) → c ≡ code_for w → (t : Kinds.Kind) (n : ℕ) → body (code_of c) (carried c) t n ≡ words_by (image_by w) t n
@@ -52,6 +48,10 @@ words_free VariableByte = variable_byte_free
 -- Rice's k, where the words are given as Rice's
 pub rice_known : (w : Words) (k : ℕ) → w ≡ Rice k → Known w → k ≤ largest_parameter
 rice_known w k e h = subst Known e h
+
+-- words that are Rice's, by the number that k is told as
+pub rice_of : {w : Words} {k n : ℕ} → w ≡ Rice k → n ≡ k → w ≡ Rice n
+rice_of e f = e ∙ ap Rice (sym f)
 
 -- ---- the kind
 

@@ -1,5 +1,5 @@
 -- A heading is known by what it means, and two answers that are told of what a caller asks for are equal.
-use Rattle.std.specs.Prelude.{◌≡◌, refl, Bool, true, false, ℕ, ◌≤◌}
+use Rattle.std.specs.Prelude.{◌≡◌, refl, Option, Some, None, Result, Ok, Bool, true, false, ℕ, ◌≤◌}
 use Rattle.std.proofs.Common.{sym, ap, ap₂, ◌∙◌, arith}
 use Rattle.format.specs.Limits.{largest_parameter}
 use Rattle.format.specs.Kinds as Kinds
@@ -9,24 +9,16 @@ use Rattle.format.specs.Writing.{parameter_of}
 use Rattle.format.proofs.Laws.Kinds as OfKinds
 use Rattle.format.proofs.Laws.Records as OfRecords
 use Rattle.format.proofs.Laws.Reading.{told_one}
-use Rattle.lists.specs.Judged.{unsigned_kind}
 use Rattle.headings.specs.declared.Code.{Code}
 use Rattle.headings.specs.declared.Code.TheVariants.{Gamma, Delta, Rice, VariableByte, Interpolative}
 use Rattle.headings.specs.declared.Kind.{Kind}
 use Rattle.headings.specs.declared.Kind.TheVariants.{Plain, Instants, Corrections}
 use Rattle.headings.specs.declared.Heading.{Heading}
-use Rattle.headings.specs.declared.CodeChoice.{CodeChoice}
-use Rattle.headings.specs.declared.CodeChoice.TheVariants as OfCode
-use Rattle.headings.specs.declared.KindChoice.{KindChoice}
-use Rattle.headings.specs.declared.KindChoice.TheVariants as OfKind
-use Rattle.headings.specs.declared.Choice.{Choice}
-use Rattle.headings.specs.declared.Choice.TheVariants as OfHeading
 use Rattle.headings.specs.declared.bodies.Words.{Words}
 use Rattle.headings.specs.declared.bodies.Words.TheVariants as OfWords
-use Rattle.headings.specs.declared.bodies.Body.{Body}
-use Rattle.headings.specs.declared.bodies.Body.TheVariants.{ByWords, ByHalves}
+use Rattle.headings.specs.declared.UnknownKind.{UnknownKind}
 use Rattle.headings.specs.Bodies as Bodies
-use Rattle.headings.specs.Bodies.{code_for, ToldBody, InstantsIf, NotIfSigned}
+use Rattle.headings.specs.Bodies.{unsigned_kind, code_for, ToldBody, InstantsIf, NotIfSigned}
 use Rattle.headings.specs.Headings as Headings
 use Rattle.headings.specs.Headings.{code_of, carried, kind_of, CodeIs, ToldCode, ToldKind, ToldNumber, Chooses}
 
@@ -74,59 +66,59 @@ small : {code parameter : ℕ} {c : Code} → CodeIs code parameter c → parame
 small h = omega (arith, h.carries, h.small)
 
 -- two answers of which code a number and a parameter mean are equal
-pub code_same : {code parameter : ℕ} {r q : CodeChoice} → ToldCode code parameter r → ToldCode code parameter q → r ≡ q
+pub code_same : {code parameter : ℕ} {r q : Option Code} → ToldCode code parameter r → ToldCode code parameter q → r ≡ q
 code_same {parameter = parameter} (Headings.is {c = c} h) (Headings.is {c = d} l) =
     let e : code_of c ≡ code_of d = OfRecords.code_one (code_of c) (code_of d) (h.number ∙ sym l.number) in
-    ap OfCode.Is (code_one c d e (sym h.carries ∙ ap (λ (x : Records.Code). parameter_of x parameter) e ∙ l.carries))
+    ap Some (code_one c d e (sym h.carries ∙ ap (λ (x : Records.Code). parameter_of x parameter) e ∙ l.carries))
 code_same (Headings.is {c = c} h) (Headings.unknown p) = absurd (p (code_of c) h.number (small h))
 code_same (Headings.unknown p) (Headings.is {c = c} h) = absurd (p (code_of c) h.number (small h))
 code_same (Headings.unknown p) (Headings.unknown o) = refl
 
 -- two answers of which kind a number means are equal
-pub number_same : {number : ℕ} {r q : KindChoice} → ToldNumber number r → ToldNumber number q → r ≡ q
-number_same (Headings.is {t = t} e) (Headings.is {t = u} f) = ap OfKind.Is (kind_one t u (OfKinds.kind_one (kind_of t) (kind_of u) (e ∙ sym f)))
+pub number_same : {number : ℕ} {r q : Result Kind UnknownKind} → ToldNumber number r → ToldNumber number q → r ≡ q
+number_same (Headings.is {t = t} e) (Headings.is {t = u} f) = ap Ok (kind_one t u (OfKinds.kind_one (kind_of t) (kind_of u) (e ∙ sym f)))
 number_same (Headings.is {t = t} e) (Headings.unknown p) = absurd (p (kind_of t) e)
 number_same (Headings.unknown p) (Headings.is {t = t} e) = absurd (p (kind_of t) e)
 number_same (Headings.unknown p) (Headings.unknown o) = refl
 
 -- also where it must be one of a family
-pub kind_same : {f : Family} {kind : ℕ} {r q : KindChoice} → ToldKind f kind r → ToldKind f kind q → r ≡ q
-kind_same (Headings.is {t = t} e) (Headings.is {t = u} f) = ap OfKind.Is (kind_one t u (told_one e f))
+pub kind_same : {f : Family} {kind : ℕ} {r q : Option Kind} → ToldKind f kind r → ToldKind f kind q → r ≡ q
+kind_same (Headings.is {t = t} e) (Headings.is {t = u} f) = ap Some (kind_one t u (told_one e f))
 kind_same (Headings.is {t = t} e) (Headings.unknown p) = absurd (p (kind_of t) e)
 kind_same (Headings.unknown p) (Headings.is {t = t} e) = absurd (p (kind_of t) e)
 kind_same (Headings.unknown p) (Headings.unknown o) = refl
 
 -- two answers of which heading a caller chooses are equal
-pub choice_same : {f : Family} {code parameter kind : ℕ} {r q : Choice} → Chooses f code parameter kind r → Chooses f code parameter kind q → r ≡ q
+pub choice_same : {f : Family} {code parameter kind : ℕ} {r q : Option Heading} → Chooses f code parameter kind r → Chooses f code parameter kind q → r ≡ q
 choice_same {parameter = parameter} (Headings.is {h = h} x) (Headings.is {h = g} y) =
     let e : code_of h.code ≡ code_of g.code = OfRecords.code_one (code_of h.code) (code_of g.code) (x.chosen.number ∙ sym y.chosen.number) in
-    ap OfHeading.Is (heading_one h g e (sym x.carries ∙ ap (λ (c : Records.Code). parameter_of c parameter) e ∙ y.carries) (told_one x.chosen.told y.chosen.told))
+    ap Some (heading_one h g e (sym x.carries ∙ ap (λ (c : Records.Code). parameter_of c parameter) e ∙ y.carries) (told_one x.chosen.told y.chosen.told))
 choice_same (Headings.is {h = h} x) (Headings.unknown p) = absurd (p (code_of h.code) (kind_of h.kind) x.chosen)
 choice_same (Headings.unknown p) (Headings.is {h = h} x) = absurd (p (code_of h.code) (kind_of h.kind) x.chosen)
 choice_same (Headings.unknown p) (Headings.unknown o) = refl
 
 -- ---- how the list after it is laid out
 
-body_from : Code → Body
-body_from Gamma = ByWords OfWords.Gamma
-body_from Delta = ByWords OfWords.Delta
-body_from (Rice k) = ByWords (OfWords.Rice k)
-body_from VariableByte = ByWords OfWords.VariableByte
-body_from Interpolative = ByHalves
+body_from : Code → Option Words
+body_from Gamma = Some OfWords.Gamma
+body_from Delta = Some OfWords.Delta
+body_from (Rice k) = Some (OfWords.Rice k)
+body_from VariableByte = Some OfWords.VariableByte
+body_from Interpolative = None
 
-words_back : (w : Words) → body_from (code_for w) ≡ ByWords w
+words_back : (w : Words) → body_from (code_for w) ≡ Some w
 unfolding body_from
 words_back OfWords.Gamma = refl
 words_back OfWords.Delta = refl
 words_back (OfWords.Rice k) = refl
 words_back OfWords.VariableByte = refl
 
-body_back : {c : Code} {b : Body} → ToldBody c b → body_from c ≡ b
+body_back : {c : Code} {b : Option Words} → ToldBody c b → body_from c ≡ b
 unfolding body_from
 body_back (Bodies.words {w = w} k e) = ap body_from e ∙ words_back w
 body_back (Bodies.halves e) = ap body_from e
 
-pub body_same : {c : Code} {b d : Body} → ToldBody c b → ToldBody c d → b ≡ d
+pub body_same : {c : Code} {b d : Option Words} → ToldBody c b → ToldBody c d → b ≡ d
 body_same x y = sym (body_back x) ∙ body_back y
 
 -- whether a kind is instants

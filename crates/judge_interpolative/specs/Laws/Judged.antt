@@ -1,6 +1,7 @@
 -- The whole body judged: what is told of its last instant and of the others, as one answer.
-use Rattle.std.specs.Prelude.{◌≡◌, List, [], ◌∷◌, ◌++◌, map, ℕ, zero, suc, ◌+◌, ◌-◌, ◌≤◌, ◌<◌, pos, length, get_or, replicate}
+use Rattle.std.specs.Prelude.{◌≡◌, Ok, List, [], ◌∷◌, ◌++◌, map, ℕ, zero, suc, ◌+◌, ◌-◌, ◌≤◌, ◌<◌, pos, length, get_or, replicate}
 use Rattle.std.proofs.Common.{sym, ap, ◌∙◌, subst, subst₂, arith}
+use Rattle.std.proofs.Math.ListN.{get_or-map}
 use Rattle.layout.specs.Layout.{word, bind, made}
 use Rattle.format.specs.Limits.{largest_instant}
 use Rattle.format.specs.Codes.{Word, delta}
@@ -9,31 +10,15 @@ use Rattle.format.specs.Reading.{below}
 use Rattle.format.proofs.Laws.Parts.{part_length}
 use Rattle.format.specs.Laws.Interpolative.{NeverFalls, sinking}
 use Rattle.format.proofs.Laws.Interpolative.{interpolative_never, length_sinking, last_and_others_lem}
-use Rattle.bits.specs.Cursor.{Within, Taken, Refuses}
-use Rattle.bits.specs.declared.BitPos.{BitPos}
+use Rattle.bits.specs.Cursor.{Taken}
 use Rattle.bits.specs.declared.Cursor.{Cursor}
 use Rattle.equal_instants.specs.Sums.{total, at_place, Sums}
 use Rattle.equal_instants.specs.Laws.Sums.{sums_middle, sums_none, value_from, below_is}
-use Rattle.read_words.specs.Told.{ToldWord}
-use Rattle.read_words.specs.declared.Read.{Read}
-use Rattle.read_words.specs.declared.Read.TheVariants.{Cut, Bad}
 use Rattle.reading.specs.Judging as Judging
 use Rattle.reading.specs.Judging.{ToldJudged}
-use Rattle.reading.specs.declared.Refusal.TheVariants.{CutShort, BadWord}
-use Rattle.reading.specs.declared.Judged.TheVariants.{Whole, No}
 use Rattle.read_middles.specs.Parts.{instants_of, cursor, LastRead}
 use Rattle.read_middles.specs.Laws.Next.{went}
-use Rattle.read_middles.specs.Laws.Body.{last_cut, last_bad}
 use Rattle.judge_interpolative.specs.Parts.{ToldPart}
-
--- ---- its last instant is refused
-
-module _ (n d : ℕ) (e : n ≡ suc d) {s : List ℕ} {c : Cursor} (h : Within c (length s)) {r : Read} (told : ToldWord Word delta s c r) where
-  pub judged_last_cut : {place sought : ℕ} (p : BitPos) → r ≡ Cut → p ≡ c.at → ToldJudged (instants_of n) place sought s c (No CutShort p)
-  judged_last_cut p f g = Judging.no (subst (λ (p : BitPos). Refuses (instants_of n) s c 6 p) (sym g) (last_cut n d e h told f))
-
-  pub judged_last_bad : {place sought : ℕ} (p : BitPos) {q : BitPos} → r ≡ Bad q → p ≡ c.at → ToldJudged (instants_of n) place sought s c (No BadWord p)
-  judged_last_bad p f g = Judging.no (subst (λ (p : BitPos). Refuses (instants_of n) s c 9 p) (sym g) (last_bad n d e h told f))
 
 -- ---- an answer for the others is known
 
@@ -69,10 +54,10 @@ module _ {place sought d t value less : ℕ} (hi : ℕ) {s : List ℕ} {at stop 
       omega (arith, value_is ts all, never_above 0 ts place (interpolative_never (suc d) ts w).1)
 
   pub judged_whole : {n : ℕ} {c : Cursor} → LastRead n d t hi s c at stop → (end : Cursor) → end.at.0 ≡ next → end.stop.0 ≡ stop
-      → ToldJudged (instants_of n) place sought s c (Whole (value + a) (less + b) end)
+      → ToldJudged pos (instants_of n) place sought s c (Ok (record { value = value + a; below = less + b; after = end }))
   judged_whole {n} {c} last end end-at end-stop =
       let (xs, all, k) = sums in
       let ts : List ℕ = sinking 1 xs ++ t ∷ [] in
       let taken : Taken (instants_of n) s c (map pos ts) end = subst₂ (λ (x y : ℕ). Taken (instants_of n) s c (map pos ts) (cursor x y)) (sym end-at) (sym end-stop) (last.reached.then xs (cursor next stop) k) in
       let f : less + b ≡ below sought (map pos ts) = omega (arith, all.less_is, below_is sought 0 ts) in
-      Judging.whole ts taken (value_is ts all) f
+      Judging.whole (map pos ts) taken (ap pos (value_is ts all) ∙ sym (get_or-map pos ts place 0)) f

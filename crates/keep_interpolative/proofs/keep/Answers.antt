@@ -1,44 +1,24 @@
-use Rattle.std.proofs.Common.{◌≡◌, refl, sym, ap, ◌∙◌, [], map, ℕ, suc, ◌+◌, ◌-◌, arith, pos, drop}
-use Rattle.layout.specs.Layout.{word}
-use Rattle.format.specs.Codes.{Word, delta}
-use Rattle.bits.specs.Cursor.{Taken}
+use Rattle.std.proofs.Common.{refl, sym, ap, ◌∙◌, [], map, ℕ, ◌+◌, ◌-◌, arith, pos, drop}
 use Rattle.bits.specs.declared.BitPos.{BitPos}
 use Rattle.read_words.specs.Laws.Told.{was_taken}
 use Rattle.reading.specs.Judging as Judging
 use Rattle.read_middles.specs.Parts.{LastRead}
-use Rattle.read_middles.specs.Laws.Body.{body_none, past_last, last_cut, last_bad}
+use Rattle.read_middles.specs.Laws.Body.{body_none, past_last, last_refused}
 use Rattle.keep_interpolative.proofs.keep.Goals as goal
-use Rattle.keep_interpolative.proofs.keep.Goals.{After-bit-in-Took, Else-n-eq0, In-Took}
+use Rattle.keep_interpolative.proofs.keep.Goals.{After-bit-in-Ok}
 
--- the list is not empty
-some : (c : Else-n-eq0) → c.args.n ≡ suc (c.args.n - 1)
-some c = omega (arith, c.if-n-eq0.false)
-
--- the last instant's word
-took : (c : In-Took) → let a = c.args in Taken (word Word delta) a.s.now a.c c.in-Took.w c.in-Took.d
-took c = was_taken c.read.ensures c.in-Took.is
-
--- the others stand after it
-past : (c : After-bit-in-Took) → let a = c.args in let t = c.in-Took.w - 1 in LastRead a.n (a.n - 1) t (t + (a.n - 1)) a.s.now a.c c.bit.result c.bit-in-Took.result
+-- the others stand after the last instant's word
+past : (c : After-bit-in-Ok) → let a = c.args in let t = c.in-Ok.w - 1 in LastRead a.n (a.n - 1) t (t + (a.n - 1)) a.s.now a.c c.bit.result c.bit-in-Ok.result
 past c =
-    past_last c.args.n (c.args.n - 1) (let some_here : c.args.n ≡ suc (c.args.n - 1) = omega (arith, c.if-n-eq0.false) in some_here) c.requires.0 (let took_here : (let a = c.args in Taken (word Word delta) a.s.now a.c c.in-Took.w c.in-Took.d) = was_taken c.read.ensures c.in-Took.is in took_here) refl refl (c.bit.ensures ∙ ap (λ (p : BitPos). p.0) c.at.ensures) (c.bit-in-Took.ensures ∙ ap (λ (p : BitPos). p.0) c.stop.ensures)
+    past_last c.args.n (c.args.n - 1) (omega (arith, c.if-n-eq0.false)) c.requires.0 (was_taken c.in-Ok.ensures) refl refl (c.bit.ensures ∙ ap (λ (p : BitPos). p.0) c.at.ensures) (c.bit-in-Ok.ensures ∙ ap (λ (p : BitPos). p.0) c.stop.ensures)
 
 pub returns-then-n-eq0 : goal.returns-then-n-eq0
 returns-then-n-eq0 c =
     Judging.whole [] (body_none c.args.n c.if-n-eq0.true c.requires.0) (sym c.if-n-eq0.true) (ap (λ (k : ℕ). drop k (map pos c.args.own.now)) (sym c.if-n-eq0.true))
 
-pub keep_others-requires : goal.keep_others-requires
-keep_others-requires c =
-    let w = (past (goal.at.keep_others-requires c).After-bit-in-Took).reached.within in
-    record { place = (w.order, w.inside, w.small); room = (omega (arith, some (goal.at.keep_others-requires c).Else-n-eq0), c.requires.1, c.requires.2, (took (goal.at.keep_others-requires c).In-Took).takes.valid) }
+pub returns-in-Ok : goal.returns-in-Ok
+returns-in-Ok c = c.keep_others.ensures _ (past (goal.at.returns-in-Ok c).After-bit-in-Ok)
 
-pub returns-in-Took : goal.returns-in-Took
-returns-in-Took c = c.keep_others.ensures _ (past (goal.at.returns-in-Took c).After-bit-in-Took)
-
-pub returns-in-Cut : goal.returns-in-Cut
-returns-in-Cut c =
-    rw c.at-in-Cut.ensures (Judging.no (last_cut c.args.n (c.args.n - 1) (some (goal.at.returns-in-Cut c).Else-n-eq0) c.requires.0 c.read.ensures c.in-Cut.is))
-
-pub returns-in-Bad : goal.returns-in-Bad
-returns-in-Bad c =
-    rw c.at-in-Bad.ensures (Judging.no (last_bad c.args.n (c.args.n - 1) (some (goal.at.returns-in-Bad c).Else-n-eq0) c.requires.0 c.read.ensures c.in-Bad.is))
+pub returns-in-Err : goal.returns-in-Err
+returns-in-Err c =
+    rw (c.word.ensures, c.at-in-Err.ensures) (Judging.no (last_refused c.args.n (c.args.n - 1) (omega (arith, c.if-n-eq0.false)) c.requires.0 c.in-Err.ensures))

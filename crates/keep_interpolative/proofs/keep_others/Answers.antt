@@ -5,13 +5,8 @@ use Rattle.read_middles.specs.Laws.Body.{others_refused}
 use Rattle.keep_interpolative.specs.Laws.Kept.{whole_kept}
 use Rattle.keep_interpolative.proofs.keep_others.Goals as goal
 
-pub refusal-requires : goal.refusal-requires
-refusal-requires c = halted_why c.keep_part-next.ensures c.if-stop-next.true (omega arith)
-
 pub returns-then-stop-next : goal.returns-then-stop-next
-returns-then-stop-next c =
-    let refusal = c.refusal in
-    let bit = c.refusal_bit in λ from last. Judging.no (others_refused last c.keep_part-next.ensures c.if-stop-next.true refusal.result bit.result refusal.ensures bit.ensures)
+returns-then-stop-next c = λ from last. Judging.no (others_refused last c.keep_part-next.ensures c.if-stop-next.true _ (c.refused.ensures.why (halted_why c.keep_part-next.ensures c.if-stop-next.true (omega arith))) c.refused.ensures.at)
 
 pub returns : goal.returns
 returns c =

@@ -1,5 +1,5 @@
 -- The whole body kept.
-use Rattle.std.specs.Prelude.{◌≡◌, List, [], ◌∷◌, ◌++◌, map, ℕ, suc, ◌+◌, ◌≤◌, ℤ, pos, length, set, drop}
+use Rattle.std.specs.Prelude.{◌≡◌, Ok, List, [], ◌∷◌, ◌++◌, map, ℕ, suc, ◌+◌, ◌≤◌, ℤ, pos, length, set, drop}
 use Rattle.std.proofs.Common.{sym, ap, ap₂, ◌∙◌, subst₂, arith, length-append}
 use Rattle.std.proofs.lemmas.List.{map-append, length-map}
 use Rattle.std.proofs.lemmas.List.Edits.{sets, sets-eq}
@@ -11,7 +11,6 @@ use Rattle.bits.specs.declared.Cursor.{Cursor}
 use Rattle.reading.specs.Judging as Judging
 use Rattle.reading.specs.Judging.{ToldKept}
 use Rattle.reading.specs.Laws.Naturals.{drop_naturals}
-use Rattle.reading.specs.declared.Kept.TheVariants.{Whole}
 use Rattle.read_middles.specs.Parts.{instants_of, cursor, LastRead}
 use Rattle.read_middles.specs.Laws.Body.{stop_small}
 use Rattle.read_middles.specs.Laws.Next.{went}
@@ -29,7 +28,7 @@ kept_in ts old {n} many h =
 module _ {n d t hi : ℕ} {s : List ℕ} {c : Cursor} {at stop : ℕ} (last : LastRead n d t hi s c at stop) where
   pub whole_kept : n ≡ suc d → (old : List ℕ) {with-others new : List ℕ} {next : ℕ} → n ≤ length old
       → KeptPart 0 d 1 hi old with-others s at stop next → next ≤ stop → new ≡ set with-others d t → (end : Cursor) → end.at.0 ≡ next → end.stop.0 ≡ stop
-      → ToldKept (instants_of n) n s c (map pos old) (map pos new) (Whole end)
+      → ToldKept (instants_of n) n s c (map pos old) (map pos new) (Ok end)
   whole_kept e old {with-others} {new} {next} room others near g end end-at end-stop =
       let (xs, f, k) = went others near (stop_small last) in
       let ts : List ℕ = sinking 1 xs ++ t ∷ [] in

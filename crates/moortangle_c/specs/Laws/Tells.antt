@@ -1,5 +1,5 @@
 -- What an entry's contract comes to at the boundary, and that it leaves an exported function no choice.
-use Rattle.std.specs.Prelude.{◌≡◌, List, map, ℕ, ℤ, pos, take}
+use Rattle.std.specs.Prelude.{◌≡◌, Result, Ok, Err, List, map, ℕ, ℤ, pos, take}
 use Rattle.std.proofs.Common.{sym, ap, ◌∙◌, subst, subst₂, arith, length-take-le}
 use Rattle.format.specs.Kinds.{Family, Unsigned, Signed}
 use Rattle.format.specs.Answers.{Outcome}
@@ -10,8 +10,9 @@ use Rattle.format.proofs.Laws.Writing.{writes_one, writes_end_one}
 use Rattle.format.proofs.Laws.Outcomes.{reads_accepted}
 use Rattle.headings.specs.Headings.{headed}
 use Rattle.reading.specs.Laws.Naturals.{naturals_one}
-use Rattle.read_records.specs.declared.Read.{Read}
-use Rattle.read_records.specs.declared.Read.TheVariants as OfRead
+use Rattle.reading.specs.declared.Refused.{Refused}
+use Rattle.read_records.specs.declared.Found.{Found}
+use Rattle.read_records.specs.declared.Found.TheVariants as OfFound
 use Rattle.read_entries.specs.Reads.{ReadsInto}
 use Rattle.flat_answers.specs.Flat.{flat_written, flat_record, flat_value, flat_correction, flat_place, flat_stream}
 use Rattle.flat_answers.specs.Reads.{FewValues, flat_read}
@@ -36,15 +37,15 @@ tells_between flat Right {x = x} e g h f = record { outcome = x; right = subst�
 -- ---- a record has no more values than a list may have
 
 module _ {bytes : List ℕ} {start stop : ℕ} {f : Family} {kind : ℕ} {old : List ℤ} where
-  pub few_values : {r : Read} {new : List ℤ} → ReadsInto bytes start stop f kind old r new → FewValues r
-  few_values {r = OfRead.Record h n p} {new = new} x =
+  pub few_values : {r : Result Found Refused} {new : List ℤ} → ReadsInto bytes start stop f kind old r new → FewValues r
+  few_values {r = Ok (OfFound.Record h n p)} {new = new} x =
       let a = reads_accepted bytes start stop f kind old (headed h (take n new)) p.0 new x.reads in
       omega (arith, length-take-le n new x.counted, a.valid.count)
-  few_values {r = OfRead.End p} x = tt
-  few_values {r = OfRead.Refused m p} x = tt
+  few_values {r = Ok (OfFound.End p)} x = tt
+  few_values {r = Err r} x = tt
 
   -- what a reader made of the positions with these numbers, flattened, is what C is told
-  pub reads_tell : {from upto : ℕ} {new : List ℤ} {r : Read} {q : Record} → start ≡ from → stop ≡ upto → ReadsInto bytes start stop f kind old r new → q ≡ flat_read r
+  pub reads_tell : {from upto : ℕ} {new : List ℤ} {r : Result Found Refused} {q : Record} → start ≡ from → stop ≡ upto → ReadsInto bytes start stop f kind old r new → q ≡ flat_read r
       → Tells flat_record (λ x. Reads bytes from upto f kind old x new) q
   reads_tell {new = new} {r = r} e g x h =
       tells_between flat_record (λ (n m : ℕ) (y : Outcome Item). Reads bytes n m f kind old y new) e g x.reads (h ∙ flat_item r new x.counted)

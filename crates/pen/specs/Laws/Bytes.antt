@@ -1,17 +1,16 @@
 -- Bits written within a byte, and whole bytes.
 use Rattle.std.specs.Prelude.{◌≡◌, Bool, ℕ, suc, ◌+◌, ◌-◌, ◌*◌, ◌/◌, ◌%◌, ◌^◌, ◌≤◌, ◌<◌, length, take, drop, set}
 use Rattle.std.proofs.Math.Path.{sym, ap}
-use Rattle.std.proofs.Common.{ap₂, ◌∙◌, subst, mod-lt, add_assoc, arith, pow_pos, pow-add, shr_lt, length-append, take_at, drop_at, length-take-le, Fits}
-use mathlib.Core.List.{List, [], ◌∷◌, ◌++◌, append_assoc}
+use Rattle.std.proofs.Common.{ap₂, ◌∙◌, subst, mod-lt, add_assoc, arith, pow_pos, pow-add, shr_lt, length-append, length-drop, take-append-drop, take_at, drop_at, length-take-le, Fits}
+use mathlib.Core.List.{List, [], ◌∷◌, ◌++◌, append_assoc, append-nil}
 use Rattle.std.proofs.Math.Arith.{digits_lt}
 use Rattle.std.proofs.Math.Pow.{split}
 use Rattle.std.proofs.Math.ListN.{get_or}
 use Rattle.std.proofs.Math.Seq.{split_at}
 use Rattle.std.proofs.lemmas.List.{set_split}
-use Rattle.std.specs.Int.{w8}
+use Rattle.std.specs.Int.{w8, w32, to_be_bytes}
 use Rattle.layout.specs.Bits.{Bytes, in_bits, bits_of, put}
-use Rattle.layout.proofs.Laws.Bits.{length_in_bits, in_bits_low, in_bits_cat, length_bits_of}
-use Rattle.layout.proofs.Laws.Windows.{put_step}
+use Rattle.layout.proofs.Laws.Bits.{length_in_bits, in_bits_low, in_bits_cat, in_bits_mod, in_bits_split, length_bits_of, bits_of_append}
 use Rattle.bits.specs.Laws.Bytes.{before, length_before, at_byte, chunk}
 
 -- b, with the w bits above the lowest k replaced by those of v
@@ -68,27 +67,35 @@ module _ (s : List ℕ) (q r w k v : ℕ) (inside : q < length s) (e : r + (w + 
       regroup : (a b c d f : List Bool) → a ++ ((b ++ (c ++ d)) ++ f) ≡ (a ++ b) ++ (c ++ (d ++ f))
       regroup a b c d f = simp append_assoc
 
--- a whole byte, written
-pub byte_write : (s : List ℕ) (q b : ℕ) → q < length s → bits_of (set s q b) ≡ put (bits_of s) (8 * q) (in_bits 8 b)
-byte_write s q b h =
+-- whole bytes, written over as many
+pub bytes_write : (s new : List ℕ) (q k : ℕ) → length new ≡ k → q + k ≤ length s
+    → bits_of (take q s ++ (new ++ drop k (drop q s))) ≡ put (bits_of s) (8 * q) (bits_of new)
+bytes_write s new q k e h =
+    let rest = drop q s in
     let a = bits_of (take q s) in
-    let z = bits_of (drop (suc q) s) in
-    let old = get_or s q 0 in
+    let old = take k rest in
+    let parts : (x : List ℕ) → bits_of (take q s ++ (x ++ drop k rest)) ≡ a ++ (bits_of x ++ bits_of (drop k rest)) =
+    λ x. bits_of_append (take q s) (x ++ drop k rest) ∙ ap (λ (l : List Bool). a ++ l) (bits_of_append x (drop k rest)) in
     let l : length a ≡ 8 * q = length_bits_of (take q s) ∙ ap (λ (m : ℕ). 8 * m) (length-take-le q s (omega arith)) in
-    ap bits_of (set_split s q b h)
-    ∙ at_byte s q b
-    ∙ sym (put_middle a (in_bits 8 old) z (in_bits 8 b) (8 * q) l (length_in_bits 8 old ∙ sym (length_in_bits 8 b)))
-    ∙ ap (λ (x : List Bool). put x (8 * q) (in_bits 8 b)) (sym (at_byte s q old) ∙ ap bits_of (sym (split_at s q 0 h)))
+    let m : length old ≡ length new = length-take-le k rest (rw length-drop (omega arith)) ∙ sym e in
+    let same : length (bits_of old) ≡ length (bits_of new) = length_bits_of old ∙ ap (λ (n : ℕ). 8 * n) m ∙ sym (length_bits_of new) in
+    let whole : take q s ++ (old ++ drop k rest) ≡ s = ap (λ (x : List ℕ). take q s ++ x) (take-append-drop k rest) ∙ take-append-drop q s in
+    parts new
+    ∙ sym (put_middle a (bits_of old) (bits_of (drop k rest)) (bits_of new) (8 * q) l same)
+    ∙ ap (λ (x : List Bool). put x (8 * q) (bits_of new)) (sym (parts old) ∙ ap bits_of whole)
 
--- x in i bytes and then one more, with rest bits still to come
-pub byte_more : {m r : List Bool} (l : List Bool) (q i x rest b : ℕ) → 8 * q ≤ length l → m ≡ put l (8 * q) (in_bits (8 * i) (x / 2 ^ (rest + 8))) → b ≡ x / 2 ^ rest % 2 ^ 8
-    → r ≡ put m (8 * (q + i)) (in_bits 8 b) → r ≡ put l (8 * q) (in_bits (8 * i + 8) (x / 2 ^ rest))
-byte_more {m} l q i x rest b h e f g =
-    let d : 8 * (q + i) ≡ 8 * q + 8 * i = omega arith in
-    g
-    ∙ ap₂ (λ (k n : ℕ). put m k (in_bits 8 n)) d f
-    ∙ ap (λ (y : List Bool). put y (8 * q + 8 * i) (in_bits 8 (x / 2 ^ rest % 2 ^ 8))) e
-    ∙ put_step l (8 * q) (8 * i) 8 rest x h
+-- a byte of x, with the bits below it
+byte_first : (j x : ℕ) → in_bits 8 (x / 2 ^ j % 256) ++ in_bits j x ≡ in_bits (8 + j) x
+byte_first j x = ap (λ (l : List Bool). l ++ in_bits j x) (in_bits_mod 8 (x / 2 ^ j)) ∙ sym (in_bits_split 8 j x)
+
+-- the bits of four bytes of x, the highest first
+pub four_bytes : (x : ℕ) → bits_of (to_be_bytes w32 x) ≡ in_bits 32 x
+unfolding bits_of
+four_bytes x =
+    ap (λ (l : List Bool). in_bits 8 (x / 16777216 % 256) ++ l)
+    (ap (λ (l : List Bool). in_bits 8 (x / 65536 % 256) ++ l)
+    (ap (λ (l : List Bool). in_bits 8 (x / 256 % 256) ++ l) (append-nil (in_bits 8 (x % 256)) ∙ in_bits_mod 8 x)
+    ∙ byte_first 8 x) ∙ byte_first 16 x) ∙ byte_first 24 x
 
 pub patched_byte : (b w k v : ℕ) → w + k ≤ 8 → b < 256 → v < 2 ^ w → patched b w k v < 256
 patched_byte b w k v h hb hv =

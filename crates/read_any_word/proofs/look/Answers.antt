@@ -1,11 +1,7 @@
 use Rattle.headings.specs.declared.bodies.Words.TheVariants.{Gamma, Delta, Rice, VariableByte}
-use Rattle.headings.specs.Laws.Bodies.{rice_known}
+use Rattle.headings.specs.Laws.Bodies.{rice_of}
 use Rattle.read_any_word.specs.Laws.Words.{glimpsed_by}
 use Rattle.read_any_word.proofs.look.Goals as goal
-
-pub rice-requires : goal.rice-requires
-rice-requires c =
-    rice_known c.args.code c.in-Rice.k c.in-Rice.is c.requires.3
 
 pub returns-in-Gamma : goal.returns-in-Gamma
 returns-in-Gamma c =
@@ -17,7 +13,7 @@ returns-in-Delta c =
 
 pub returns-in-Rice : goal.returns-in-Rice
 returns-in-Rice c =
-    glimpsed_by c.args.code (Rice c.in-Rice.k) c.in-Rice.is c.look-n.ensures c.rice.ensures
+    glimpsed_by c.args.code (Rice c.get.result) (rice_of c.in-Rice.is c.get.ensures.0) c.look-n.ensures c.rice.ensures
 
 pub returns-in-VariableByte : goal.returns-in-VariableByte
 returns-in-VariableByte c =

@@ -1,9 +1,9 @@
 -- The body after a heading, by the way in which its code lays a list out.
-use Rattle.std.specs.Prelude.{◌≡◌, List, ℕ, ℤ, length}
-use Rattle.std.proofs.Common.{sym, ap, ◌∙◌, subst, arith}
+use Rattle.std.specs.Prelude.{◌≡◌, Result, List, ℕ, ℤ, length}
+use Rattle.std.proofs.Common.{sym, ap, ◌∙◌, subst}
 use Rattle.layout.specs.Layout.{Layout}
 use Rattle.format.specs.Kinds as Kinds
-use Rattle.format.specs.Kinds.{Kind, Family, family_of, kind_number, Signed}
+use Rattle.format.specs.Kinds.{Kind, Family, Unsigned, family_of}
 use Rattle.format.specs.Records as Records
 use Rattle.format.specs.Records.{Asked, This, words_by, body}
 use Rattle.format.proofs.Laws.Bodies.{body_list}
@@ -11,45 +11,36 @@ use Rattle.bits.specs.Cursor.{Taken}
 use Rattle.bits.specs.declared.Cursor.{Cursor}
 use Rattle.headings.specs.Headings.{code_of, carried, kind_of}
 use Rattle.headings.specs.Bodies.{image_by, code_for}
-use Rattle.headings.specs.Laws.Bodies.{words_body, signed_corrections}
+use Rattle.headings.specs.Laws.Bodies.{words_body}
 use Rattle.headings.specs.declared.Code.{Code}
 use Rattle.headings.specs.declared.Code.TheVariants.{Interpolative}
 use Rattle.headings.specs.declared.Heading.{Heading}
 use Rattle.headings.specs.declared.bodies.Words.{Words}
-use Rattle.reading.specs.Judging.{ToldJudged, ToldCorrections, ToldKept}
+use Rattle.reading.specs.Judging.{ToldJudged, ToldKept}
 use Rattle.reading.specs.declared.Judged.{Judged}
-use Rattle.reading.specs.declared.JudgedCorrections.{JudgedCorrections}
-use Rattle.reading.specs.declared.Kept.{Kept}
+use Rattle.reading.specs.declared.Refused.{Refused}
 use Rattle.read_headings.specs.Told.{body_of, Legal, Headed}
 use Rattle.read_bodies.specs.Bodies.{HeadingFor}
 
 -- ---- word by word, or by halves
 
-pub by_words : (h : Heading) (n : ℕ) (w : Words) (t : Kind) → h.code ≡ code_for w → kind_of h.kind ≡ t → body_of h n ≡ words_by (image_by w) t n
-by_words h n w t e f = words_body w h.code e (kind_of h.kind) n ∙ ap (λ (u : Kind). words_by (image_by w) u n) f
+pub by_words : (h : Heading) (n : ℕ) (w : Words) → h.code ≡ code_for w → body_of h n ≡ words_by (image_by w) (kind_of h.kind) n
+by_words h n w e = words_body w h.code e (kind_of h.kind) n
 
 pub by_halves : (h : Heading) (n : ℕ) → h.code ≡ Interpolative → body_of h n ≡ body Records.Interpolative 0 Kinds.Instants n
 by_halves h n e = ap (λ (c : Code). body (code_of c) (carried c) (kind_of h.kind) n) e
 
-pub signed_kind : (h : Heading) → HeadingFor Signed h → kind_of h.kind ≡ Kinds.Corrections
-signed_kind h f = signed_corrections (kind_of h.kind) f.family
-
--- corrections are never by halves: code 5 is for "instants only"
-pub signed_not_halves : (h : Heading) → HeadingFor Signed h → h.code ≡ Interpolative → ⊥
-signed_not_halves h f e =
-    let z : ◌≡◌ {A = ℕ} 2 1 = ap kind_number (sym (signed_kind h f) ∙ f.fine.instants (ap code_of e)) in
-    omega arith
+-- code 5 is for "instants only", which are not signed
+pub halves_unsigned : {f : Family} (h : Heading) → HeadingFor f h → h.code ≡ Interpolative → f ≡ Unsigned
+halves_unsigned h f e = sym f.family ∙ ap family_of (f.fine.instants (ap code_of e))
 
 -- ---- what is said of one layout is said of another that is the same
 
 module _ {L M : Layout (List ℤ)} (e : L ≡ M) {s : List ℕ} {c : Cursor} where
-  pub judged_as : {place sought : ℕ} {r : Judged} → ToldJudged M place sought s c r → ToldJudged L place sought s c r
-  judged_as {place} {sought} {r} h = subst (λ (N : Layout (List ℤ)). ToldJudged N place sought s c r) (sym e) h
+  pub judged_as : {T : Type 0} {number : T → ℤ} {place sought : ℕ} {r : Result (Judged T) Refused} → ToldJudged number M place sought s c r → ToldJudged number L place sought s c r
+  judged_as {number = number} {place} {sought} {r} h = subst (λ (N : Layout (List ℤ)). ToldJudged number N place sought s c r) (sym e) h
 
-  pub corrections_as : {place : ℕ} {r : JudgedCorrections} → ToldCorrections M place s c r → ToldCorrections L place s c r
-  corrections_as {place} {r} h = subst (λ (N : Layout (List ℤ)). ToldCorrections N place s c r) (sym e) h
-
-  pub kept_as : {n : ℕ} {old new : List ℤ} {r : Kept} → ToldKept M n s c old new r → ToldKept L n s c old new r
+  pub kept_as : {n : ℕ} {old new : List ℤ} {r : Result Cursor Refused} → ToldKept M n s c old new r → ToldKept L n s c old new r
   kept_as {n} {old} {new} {r} h = subst (λ (N : Layout (List ℤ)). ToldKept N n s c old new r) (sym e) h
 
 -- ---- after a heading that was read

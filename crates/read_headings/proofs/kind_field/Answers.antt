@@ -1,18 +1,17 @@
-use Rattle.std.proofs.Common.{rules}
 use Rattle.read_headings.specs.Laws.Fields.{kind_unwanted, kind_amiss, kind_is, kind_unknown, kind_cut}
 use Rattle.read_headings.proofs.kind_field.Goals as goal
 
+pub returns-in_default : goal.returns-in_default
+returns-in_default c = rw c.refused.ensures (kind_cut c.in_default.ensures)
+
+pub returns-in_default-try_from : goal.returns-in_default-try_from
+returns-in_default-try_from c = rw c.refused-wrong.ensures (kind_unknown c.in-Some.ensures c.requires c.in_default-try_from.ensures)
+
 pub returns-then-unwanted : goal.returns-then-unwanted
-returns-then-unwanted c = search (rules, kind_unwanted)
+returns-then-unwanted c = rw c.refused-wrong.ensures (kind_unwanted c.in-Some.ensures c.in-Ok.ensures c.requires c.unwanted.ensures c.if-unwanted.true)
 
 pub returns-then-amiss : goal.returns-then-amiss
-returns-then-amiss c = search (rules, kind_amiss)
+returns-then-amiss c = rw c.refused-wrong.ensures (kind_amiss c.in-Some.ensures c.in-Ok.ensures c.requires c.amiss.ensures c.if-amiss.true)
 
-pub returns-else-amiss : goal.returns-else-amiss
-returns-else-amiss c = search (rules, kind_is)
-
-pub returns-in-Unknown : goal.returns-in-Unknown
-returns-in-Unknown c = search (rules, kind_unknown)
-
-pub returns-in-Cut : goal.returns-in-Cut
-returns-in-Cut c = search (rules, kind_cut)
+pub returns : goal.returns
+returns c = kind_is c.in-Some.ensures c.in-Ok.ensures c.unwanted.ensures c.if-unwanted.false c.amiss.ensures c.if-amiss.false

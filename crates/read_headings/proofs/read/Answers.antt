@@ -1,34 +1,38 @@
-use Rattle.std.proofs.Common.{rules}
-use Rattle.read_headings.specs.Laws.Headings.{after_code, after_kind, after_parameter, body_told, no_count_told, no_parameter_told, no_kind_told, mark_told, no_code_told}
+use Rattle.format.specs.Records.{code_field}
+use Rattle.bits.specs.Cursor.{Taken}
+use Rattle.headings.specs.Headings.{code_of}
+use Rattle.read_headings.specs.Laws.Told.{was_code, was_kind, was_parameter}
+use Rattle.read_headings.specs.Laws.Headings.{body_told, no_count_told, no_parameter_told, no_kind_told, mark_told, no_code_told}
+use Rattle.reading.specs.Laws.Refusals.{handed_on}
 use Rattle.read_headings.proofs.read.Goals as goal
+use Rattle.read_headings.proofs.read.Goals.{In-Some}
 
-pub kind_field-requires : goal.kind_field-requires
-kind_field-requires c = search (rules, after_code)
+-- the code that was taken
+code : (c : In-Some) → Taken code_field c.args.s.now c.args.c (code_of c.in-Some.code) c.in_ok-found.d
+code c = was_code (rw c.in-Some.is at c.in_ok-found.ensures)
 
-pub parameter_field-requires : goal.parameter_field-requires
-parameter_field-requires c = search (rules, after_kind)
+pub returns-in_err-found : goal.returns-in_err-found
+returns-in_err-found c = rw (handed_on c.from_residual.ensures.1) (no_code_told c.requires c.in_err-found.ensures)
 
-pub read-requires : goal.read-requires
-read-requires c = search (rules, after_parameter)
+pub returns-in_default : goal.returns-in_default
+returns-in_default c = mark_told c.requires (rw c.in_default.is at c.in_ok-found.ensures)
 
-pub returns-in-Is-read : goal.returns-in-Is-read
-returns-in-Is-read c =
-    body_told c.requires c.code_field.ensures c.in-Is.is c.kind_field.ensures c.in-Is-kind_field.is
-    c.parameter_field.ensures c.in-Is-parameter_field.is c.read.ensures c.in-Is-read.is
+pub returns-in_err-kind : goal.returns-in_err-kind
+returns-in_err-kind c =
+    rw (handed_on c.from_residual-in_err-kind.ensures.1) (no_kind_told c.requires c.in-Some.code (code (goal.at.returns-in_err-kind c).In-Some) c.in_err-kind.ensures)
 
-pub returns-in-No-read : goal.returns-in-No-read
-returns-in-No-read c =
-    no_count_told c.requires c.code_field.ensures c.in-Is.is c.kind_field.ensures c.in-Is-kind_field.is
-    c.parameter_field.ensures c.in-Is-parameter_field.is c.read.ensures c.in-No-read.is c.at.ensures
+pub returns-in_err-whole : goal.returns-in_err-whole
+returns-in_err-whole c =
+    let code = code (goal.at.returns-in_err-whole c).In-Some in
+    rw (handed_on c.from_residual-in_err-whole.ensures.1) (no_parameter_told c.requires _ code c.in_ok-kind.kind (was_kind c.in_ok-kind.ensures) c.in_err-whole.ensures)
 
-pub returns-in-Cut : goal.returns-in-Cut
-returns-in-Cut c = search (rules, no_parameter_told)
+pub returns-in_err-n : goal.returns-in_err-n
+returns-in_err-n c =
+    let code = code (goal.at.returns-in_err-n c).In-Some in
+    let with = was_parameter c.in_ok-whole.ensures in
+    rw (handed_on c.from_residual-in_err-n.ensures.1) (no_count_told c.requires _ code c.in_ok-kind.kind (was_kind c.in_ok-kind.ensures) with c.in_err-n.ensures)
 
-pub returns-in-No-kind_field : goal.returns-in-No-kind_field
-returns-in-No-kind_field c = search (rules, no_kind_told)
-
-pub returns-in-End : goal.returns-in-End
-returns-in-End c = search (rules, mark_told)
-
-pub returns-in-No : goal.returns-in-No
-returns-in-No c = search (rules, no_code_told)
+pub returns : goal.returns
+returns c =
+    let code = code (goal.at.returns c).In-Some in
+    body_told c.requires _ code c.in_ok-kind.kind (was_kind c.in_ok-kind.ensures) (was_parameter c.in_ok-whole.ensures) c.in_ok-n.ensures

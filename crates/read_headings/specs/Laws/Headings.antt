@@ -1,5 +1,5 @@
 -- The fields of a heading put together.
-use Rattle.std.specs.Prelude.{◌≡◌, List, ℕ, ◌≤◌, ℤ, length}
+use Rattle.std.specs.Prelude.{None, Ok, Err, List, ℕ, ◌≤◌, ℤ, length}
 use Rattle.std.proofs.Common.{sym, ap, subst, arith}
 use Rattle.layout.specs.Layout.{Layout, known}
 use Rattle.format.specs.Limits.{largest_parameter}
@@ -20,24 +20,15 @@ use Rattle.reading.specs.Refusals.{refusal_number}
 use Rattle.reading.specs.Reached.{Reached}
 use Rattle.reading.specs.Laws.Steps.{no_first, no_second, no_value, taken_known}
 use Rattle.reading.specs.Laws.Reached.{on, past, parts}
-use Rattle.reading.specs.declared.Refusal.{Refusal}
-use Rattle.reading.specs.declared.Refusal.TheVariants.{CutShort}
+use Rattle.reading.specs.declared.Refused.{Refused}
 use Rattle.read_counts.specs.Told.{ToldCountField}
 use Rattle.read_counts.specs.Laws.Told.{was_count, was_no_count}
-use Rattle.read_counts.specs.declared.CountField.{CountField}
-use Rattle.read_counts.specs.declared.CountField.TheVariants as OfCount
 use Rattle.read_headings.specs.Told as Told
-use Rattle.read_headings.specs.Told.{Ended, heading_then, heading_for, Headed, Refused, ToldHeading}
-use Rattle.read_headings.specs.Fields.{ToldCodeField, ToldKindField, ToldParameterField}
-use Rattle.read_headings.specs.Laws.Told.{was_code, was_mark, was_no_code, was_kind, was_no_kind, was_parameter, was_no_parameter}
+use Rattle.read_headings.specs.Told.{Ended, heading_then, heading_for, Headed, NoHeading, ToldHeading}
+use Rattle.read_headings.specs.Fields.{ToldCodeField, ToldKindField, CodeWith, ToldParameterField}
+use Rattle.read_headings.specs.Laws.Told.{was_mark, was_no_code, was_no_kind, was_no_parameter}
 use Rattle.read_headings.specs.Laws.Fields.{ended_zero, code_no_end}
 use Rattle.read_headings.specs.declared.Begun.TheVariants as OfBegun
-use Rattle.read_headings.specs.declared.CodeField.{CodeField}
-use Rattle.read_headings.specs.declared.CodeField.TheVariants as OfCode
-use Rattle.read_headings.specs.declared.KindField.{KindField}
-use Rattle.read_headings.specs.declared.KindField.TheVariants as OfKind
-use Rattle.read_headings.specs.declared.ParameterField.{ParameterField}
-use Rattle.read_headings.specs.declared.ParameterField.TheVariants as OfParameter
 
 -- ---- past each field, whatever comes after the count
 
@@ -73,10 +64,10 @@ record_parts q w =
     (λ (x, (t, (k, (n, vs)))) h. (tt, ap (λ (m : ℕ). (x, (t, (k, (m, vs))))) (body_list x k t n vs h.1.0.0.1 h.1.1.1.1).0))
 
 -- what a heading is refused with, whatever comes after it, the record is
-refused : (q : Asked) {s : List ℕ} {c : Cursor} {m : Refusal} {p : BitPos} → Within c (length s) → NoEnd (left c s)
-    → Refuses (heading_then q nothing) s c (refusal_number m) p → Refuses (heading_then q bodies) s c (refusal_number m) p → Refused q s c m p
+refused : (q : Asked) {s : List ℕ} {c : Cursor} {r : Refused} → Within c (length s) → NoEnd (left c s)
+    → Refuses (heading_then q nothing) s c (refusal_number r.why) r.at → Refuses (heading_then q bodies) s c (refusal_number r.why) r.at → ToldHeading q s c (Err r)
 unfolding heading_for
-refused q w o r b = record { mark = o; heading = r; whole = (record_parts q w).no _ _ b }
+refused q {r = r} w o h b = Told.no {m = r.why} {p = r.at} (record { mark = o; heading = h; whole = (record_parts q w).no _ _ b })
 
 -- five bits hold no parameter that is too large
 parameter_small : (x : Records.Code) (k : ℕ) → (parameter_field x).ok k → k ≤ largest_parameter
@@ -109,58 +100,38 @@ end_no q {c = c} e w = (record_parts q w).no 7 c.at (no_first (no_value w (ended
 
 -- ---- what each field's answer comes to
 
--- the next field can be read
-module _ {s : List ℕ} {c : Cursor} where
-  pub after_code : {a : CodeField} {x : Code} {d : Cursor} → ToldCodeField s c a → a ≡ OfCode.Is x d → Within d (length s)
-  after_code t e = (was_code t e).within
+-- code and kind, said of the code that has its parameter
+module _ {x y : Code} {s : List ℕ} {e f : Cursor} (with : CodeWith x s e y f) {c d : Cursor} where
+  whole_code : Taken code_field s c (code_of x) d → Taken code_field s c (code_of y) d
+  whole_code = subst (λ (v : Records.Code). Taken code_field s c v d) (sym with.code)
 
-  pub after_kind : {w : Records.Wanted} {x : Records.Code} {a : KindField} {t : Kind} {d : Cursor} → ToldKindField w x s c a → a ≡ OfKind.Is t d → Within d (length s)
-  after_kind t e = (was_kind t e).within
+  whole_kind : (w : Records.Wanted) {t : Kinds.Kind} → Taken (kind_field w (code_of x)) s c t d → Taken (kind_field w (code_of y)) s c t d
+  whole_kind w {t = t} = subst (λ (v : Records.Code). Taken (kind_field w v) s c t d) (sym with.code)
 
-  pub after_parameter : {x y : Code} {a : ParameterField} {d : Cursor} → ToldParameterField x s c a → a ≡ OfParameter.Is y d → Within d (length s)
-  after_parameter t e = (was_parameter t e).parameter.within
+module _ {q : Asked} {s : List ℕ} {c : Cursor} (w : Within c (length s)) where
+  pub mark_told : {d : Cursor} → ToldCodeField s c (Ok (None, d)) → ToldHeading q s c (Ok (OfBegun.End d))
+  mark_told t = Told.ends (was_mark t)
 
-module _ {q : Asked} {s : List ℕ} {c : Cursor} (w : Within c (length s)) {a : CodeField} (code : ToldCodeField s c a) where
-  refuses : {m : Refusal} {o p : BitPos} → NoEnd (left c s) → p ≡ o → Refuses (heading_then q nothing) s c (refusal_number m) o
-      → Refuses (heading_then q bodies) s c (refusal_number m) o → ToldHeading q s c (OfBegun.No m p)
-  refuses {m} n e r b = Told.no {m = m} (subst (λ (x : BitPos). Refused q s c m x) (sym e) (refused q w n r b))
+  pub no_code_told : {r : Refused} → ToldCodeField s c (Err r) → ToldHeading q s c (Err r)
+  no_code_told t = let (n, k) = was_no_code t in refused q w n (no_first k) (no_first k)
 
-  pub mark_told : {d : Cursor} → a ≡ OfCode.End d → ToldHeading q s c (OfBegun.End d)
-  mark_told e = Told.ends (was_mark code e)
+  module _ (x : Code) {d : Cursor} (code : Taken code_field s c (code_of x) d) where
+    pub no_kind_told : {r : Refused} → ToldKindField q.wanted (code_of x) s d (Err r) → ToldHeading q s c (Err r)
+    no_kind_told t = let k = was_no_kind t in refused q w (code_no_end code.takes) (no_kind q nothing code k) (no_kind q bodies code k)
 
-  pub no_code_told : {m : Refusal} {p : BitPos} → a ≡ OfCode.No m → p ≡ c.at → ToldHeading q s c (OfBegun.No m p)
-  no_code_told e f = let (n, r) = was_no_code code e in refuses n f (no_first r) (no_first r)
+    module _ (t : Kind) {e : Cursor} (kind : Taken (kind_field q.wanted (code_of x)) s d (kind_of t) e) where
+      pub no_parameter_told : {r : Refused} → ToldParameterField x s e (Err r) → ToldHeading q s c (Err r)
+      no_parameter_told u =
+          let k = was_no_parameter u in
+          refused q w (code_no_end code.takes) (no_parameter q nothing code kind k) (no_parameter q bodies code kind k)
 
-  module _ {x : Code} {d : Cursor} (e : a ≡ OfCode.Is x d) {b : KindField} (kind : ToldKindField q.wanted (code_of x) s d b) where
-    pub no_kind_told : {m : Refusal} {p : BitPos} → b ≡ OfKind.No m → p ≡ d.at → ToldHeading q s c (OfBegun.No m p)
-    no_kind_told f g =
-        let t = was_code code e in
-        let r = was_no_kind kind f in
-        refuses (code_no_end t.takes) g (no_kind q nothing t r) (no_kind q bodies t r)
+      module _ {y : Code} {f : Cursor} (with : CodeWith x s e y f) where
+        pub no_count_told : {r : Refused} → ToldCountField q.room s f (Err r) → ToldHeading q s c (Err r)
+        no_count_told u =
+            let a = whole_code with code in
+            let b = whole_kind with q.wanted kind in
+            let k = was_no_count u in
+            refused q w (code_no_end code.takes) (no_count q nothing a b with.parameter k) (no_count q bodies a b with.parameter k)
 
-    module _ {t : Kind} {f : Cursor} (g : b ≡ OfKind.Is t f) {z : ParameterField} (parameter : ToldParameterField x s f z) where
-      pub no_parameter_told : {p : BitPos} → z ≡ OfParameter.Cut → p ≡ f.at → ToldHeading q s c (OfBegun.No CutShort p)
-      no_parameter_told h i =
-          let u = was_code code e in
-          let v = was_kind kind g in
-          let r = was_no_parameter parameter h in
-          refuses {m = CutShort} (code_no_end u.takes) i (no_parameter q nothing u v r) (no_parameter q bodies u v r)
-
-      module _ {y : Code} {h : Cursor} (j : z ≡ OfParameter.Is y h) {k : CountField} (count : ToldCountField q.room s h k) where
-        -- code and kind, said of the code that has its parameter
-        whole_code : Taken code_field s c (code_of y) d
-        whole_code = subst (λ (v : Records.Code). Taken code_field s c v d) (sym (was_parameter parameter j).code) (was_code code e)
-
-        whole_kind : Taken (kind_field q.wanted (code_of y)) s d (kind_of t) f
-        whole_kind = subst (λ (v : Records.Code). Taken (kind_field q.wanted v) s d (kind_of t) f) (sym (was_parameter parameter j).code) (was_kind kind g)
-
-        pub no_count_told : {m : Refusal} {p : BitPos} → k ≡ OfCount.No m → p ≡ h.at → ToldHeading q s c (OfBegun.No m p)
-        no_count_told l i =
-            let v = (was_parameter parameter j).parameter in
-            let r = was_no_count count l in
-            refuses (code_no_end (was_code code e).takes) i (no_count q nothing whole_code whole_kind v r) (no_count q bodies whole_code whole_kind v r)
-
-        pub body_told : {n : ℕ} {o : Cursor} → k ≡ OfCount.Is n o → ToldHeading q s c (OfBegun.Body (record { code = y; kind = t }) n o)
-        body_told {n = n} l =
-            Told.begins {h = record { code = y; kind = t }} {n = n}
-            (all_taken q (record { code = y; kind = t }) w whole_code whole_kind (was_parameter parameter j).parameter (was_count count l))
+        pub body_told : {n : ℕ} {g : Cursor} → ToldCountField q.room s f (Ok (n, g)) → ToldHeading q s c (Ok (OfBegun.Body (record { code = y; kind = t }) n g))
+        body_told u = Told.begins (all_taken q (record { code = y; kind = t }) w (whole_code with code) (whole_kind with q.wanted kind) with.parameter (was_count u))

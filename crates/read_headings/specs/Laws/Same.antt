@@ -1,5 +1,5 @@
 -- Two answers that satisfy the contract of a heading's reader are equal.
-use Rattle.std.specs.Prelude.{◌≡◌, Bool, List, ℕ, length}
+use Rattle.std.specs.Prelude.{◌≡◌, Result, Ok, Err, Bool, List, ℕ, length}
 use Rattle.std.proofs.Common.{ap, ◌∙◌, append_assoc}
 use Rattle.layout.specs.Layout.{Takes}
 use Rattle.layout.specs.Sound.{Sound}
@@ -15,7 +15,8 @@ use Rattle.bits.specs.declared.Cursor.{Cursor}
 use Rattle.headings.specs.Laws.Same.{heading_one}
 use Rattle.headings.specs.declared.Heading.{Heading}
 use Rattle.reading.specs.Laws.Steps.{no_taken, taken_one}
-use Rattle.reading.specs.Laws.Same.{refused_one}
+use Rattle.reading.specs.Laws.Same.{refusal_one}
+use Rattle.reading.specs.declared.Refused.{Refused}
 use Rattle.read_headings.specs.Told as Told
 use Rattle.read_headings.specs.Told.{Ended, heading_for, Headed, ToldHeading}
 use Rattle.read_headings.specs.Laws.Fields.{ended_zero, code_no_end}
@@ -51,13 +52,13 @@ module _ {q : Asked} {s : List ℕ} {c : Cursor} where
       cc
 
   -- one answer, cursor and bit included
-  pub heading_same : {r t : Begun} → Within c (length s) → ToldHeading q s c r → ToldHeading q s c t → r ≡ t
-  heading_same w (Told.begins t) (Told.begins u) = headed_one t u
+  pub heading_same : {r t : Result Begun Refused} → Within c (length s) → ToldHeading q s c r → ToldHeading q s c t → r ≡ t
+  heading_same w (Told.begins t) (Told.begins u) = ap Ok (headed_one t u)
   heading_same w (Told.begins t) (Told.ends u) = absurd (heading_no_end q t.taken.takes _ u.mark)
   heading_same w (Told.begins t) (Told.no u) = absurd (no_taken (heading_sound q) u.heading t.taken)
   heading_same w (Told.ends t) (Told.begins u) = absurd (heading_no_end q u.taken.takes _ t.mark)
-  heading_same w (Told.ends t) (Told.ends u) = ap OfBegun.End (ended_one t u)
+  heading_same w (Told.ends t) (Told.ends u) = ap (λ (d : Cursor). Ok (OfBegun.End d)) (ended_one t u)
   heading_same w (Told.ends t) (Told.no u) = absurd (u.mark _ t.mark)
   heading_same w (Told.no t) (Told.begins u) = absurd (no_taken (heading_sound q) t.heading u.taken)
   heading_same w (Told.no t) (Told.ends u) = absurd (t.mark _ u.mark)
-  heading_same w (Told.no t) (Told.no u) = let (e, f) = refused_one (heading_sound q) w t.heading u.heading in λ i. OfBegun.No (e i) (f i)
+  heading_same w (Told.no t) (Told.no u) = ap Err (refusal_one (heading_sound q) w t.heading u.heading)

@@ -1,22 +1,15 @@
-use Rattle.std.proofs.Common.{◌+◌, ◌-◌, ◌/◌, arith}
+use Rattle.std.proofs.Common.{arith}
 use Rattle.read_middles.specs.Laws.Next.{lies}
 use Rattle.read_middles.specs.Laws.Offset.{offset_cut, offset_bad, offset_taken}
 use Rattle.read_middles.proofs.read_middle.Goals as goal
 
-pub returns-then-stop-at : goal.returns-then-stop-at
-returns-then-stop-at c =
-    let a = c.args in
-    let w = lies a.s.now a.at a.stop c.requires.place in
-    record { told_middle = offset_cut (a.low + (a.n - 1) / 2) (a.hi + 2 - (a.low + a.n)) c.length-own.result w c.length-own.ensures.0 (omega arith); bounds = (omega arith, omega arith); refused = λ h. omega arith }
+pub returns-then-too_few-clause-told_middle : goal.returns-then-too_few-clause-told_middle
+returns-then-too_few-clause-told_middle c = offset_cut _ _ _ (lies _ _ _ c.requires.place) c.length-own.ensures.0 (omega arith)
 
-pub returns-then-possible-offset : goal.returns-then-possible-offset
-returns-then-possible-offset c =
-    let a = c.args in
-    let w = lies a.s.now a.at a.stop c.requires.place in
-    record { told_middle = offset_bad (a.low + (a.n - 1) / 2) (a.hi + 2 - (a.low + a.n)) c.length-own.result w c.length-own.ensures.0 c.number-offset.result (omega arith) c.number-offset.ensures (omega arith); bounds = (omega arith, omega arith); refused = λ h. omega arith }
+pub returns-then-too_large-clause-told_middle : goal.returns-then-too_large-clause-told_middle
+returns-then-too_large-clause-told_middle c =
+    offset_bad _ _ _ (lies _ _ _ c.requires.place) c.length-own.ensures.0 _ (omega (arith, c.if-too_few.false)) c.number-offset.ensures (omega arith)
 
-pub returns : goal.returns
-returns c =
-    let a = c.args in
-    let w = lies a.s.now a.at a.stop c.requires.place in
-    record { told_middle = offset_taken (a.low + (a.n - 1) / 2) (a.hi + 2 - (a.low + a.n)) c.length-own.result w c.length-own.ensures.0 c.number-offset.result (omega arith) c.number-offset.ensures (omega arith); bounds = (omega arith, omega arith); refused = λ h. omega arith }
+pub returns-clause-told_middle : goal.returns-clause-told_middle
+returns-clause-told_middle c =
+    offset_taken _ _ _ (lies _ _ _ c.requires.place) c.length-own.ensures.0 _ (omega (arith, c.if-too_few.false)) c.number-offset.ensures (omega (arith, c.if-too_large.false))

@@ -1,5 +1,5 @@
 -- The whole body: the last instant in delta, then the elements before the last as one part.
-use Rattle.std.specs.Prelude.{◌≡◌, refl, List, [], ◌∷◌, ◌++◌, map, ℕ, suc, ◌+◌, ◌-◌, ◌/◌, ◌%◌, ◌<◌, pos, length}
+use Rattle.std.specs.Prelude.{◌≡◌, refl, Err, List, [], ◌∷◌, ◌++◌, map, ℕ, suc, ◌+◌, ◌-◌, ◌/◌, ◌%◌, ◌<◌, pos, length}
 use Rattle.std.proofs.Common.{sym, subst, subst₂, arith}
 use Rattle.layout.specs.Layout.{word, first}
 use Rattle.format.specs.Codes.{Word, delta}
@@ -13,14 +13,13 @@ use Rattle.bits.specs.Cursor.{Within, Taken, Refuses}
 use Rattle.bits.specs.declared.BitPos.{BitPos}
 use Rattle.bits.specs.declared.Cursor.{Cursor}
 use Rattle.read_words.specs.Told.{ToldWord}
-use Rattle.read_words.specs.declared.Read.{Read}
-use Rattle.read_words.specs.declared.Read.TheVariants.{Cut, Bad}
-use Rattle.reading.specs.Refusals.{refusal_number}
+use Rattle.read_words.specs.declared.NoWord.{NoWord}
+use Rattle.reading.specs.Refusals.{refusal_number, why_no_word}
 use Rattle.reading.specs.Reached.{Reached}
 use Rattle.reading.specs.Laws.Reached.{on, past, parts}
-use Rattle.reading.specs.Laws.Words.{word_cut, word_bad}
+use Rattle.reading.specs.Laws.Words.{word_refused}
 use Rattle.reading.specs.Laws.Steps.{taken_made, taken_known}
-use Rattle.reading.specs.declared.Refusal.{Refusal}
+use Rattle.reading.specs.declared.Refused.{Refused}
 use Rattle.read_middles.specs.Parts.{instants_of, cursor, ToldNext, LastRead}
 use Rattle.read_middles.specs.Laws.Next.{halted_at}
 
@@ -49,12 +48,8 @@ module _ (n d : ℕ) (e : n ≡ suc d) {s : List ℕ} {c : Cursor} (h : Within c
             (past (taken_made t tt (omega arith) k)))));
       }
 
-  module _ {r : Read} (told : ToldWord Word delta s c r) where
-    pub last_cut : r ≡ Cut → Refuses (instants_of n) s c 6 c.at
-    last_cut f = no_last e (word_cut told h f)
-
-    pub last_bad : {q : BitPos} → r ≡ Bad q → Refuses (instants_of n) s c 9 c.at
-    last_bad f = no_last e (word_bad told h delta_free f)
+  pub last_refused : {r : NoWord} → ToldWord Word delta s c (Err r) → Refuses (instants_of n) s c (refusal_number (why_no_word r)) c.at
+  last_refused told = no_last e (word_refused delta_free h told)
 
 -- ---- the others, refused by one number beyond the stop
 
@@ -63,5 +58,5 @@ module _ {n d t hi : ℕ} {s : List ℕ} {c : Cursor} {at stop : ℕ} (last : La
   stop_small = omega (arith, last.reached.within.inside, last.reached.within.small)
 
   pub others_refused : {Good : List ℕ → Type 0} {next : ℕ} → ToldNext (part d 1 hi) Good s at stop next → stop < next
-      → (m : Refusal) (p : BitPos) → refusal_number m ≡ next / 4294967296 → p.0 ≡ next % 4294967296 → Refuses (instants_of n) s c (refusal_number m) p
-  others_refused others far m p why bit_is = subst (λ (k : ℕ). Refuses (instants_of n) s c k p) (sym why) (last.reached.no _ p (halted_at others far stop_small p bit_is))
+      → (r : Refused) → refusal_number r.why ≡ next / 4294967296 → r.at.0 ≡ next % 4294967296 → Refuses (instants_of n) s c (refusal_number r.why) r.at
+  others_refused others far r why bit_is = subst (λ (k : ℕ). Refuses (instants_of n) s c k r.at) (sym why) (last.reached.no _ r.at (halted_at others far stop_small r.at bit_is))

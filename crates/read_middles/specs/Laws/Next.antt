@@ -1,6 +1,6 @@
 -- An answer in one number that is known.
 use Rattle.std.specs.Prelude.{◌≡◌, List, ℕ, ◌*◌, ◌/◌, ◌%◌, ◌≤◌, ◌<◌, length}
-use Rattle.std.proofs.Common.{sym, subst, subst₂, inl, inr, arith}
+use Rattle.std.proofs.Common.{subst, subst₂, inl, inr, arith}
 use Rattle.layout.specs.Layout.{Layout}
 use Rattle.format.specs.Limits.{longest_buffer}
 use Rattle.bits.specs.Cursor.{Within, Taken, Refuses}
@@ -29,7 +29,7 @@ module _ {A : Type 0} {L : Layout A} {Good : A → Type 0} {s : List ℕ} {at st
   halted_why (goes a g t) far small = absurd (omega (arith, t.within.order))
   halted_why (halts number bit which e r) far small = let a : number ≡ next / 4294967296 = omega (arith, r.upto) in subst Halting a which
 
-  -- and its bit
+  -- by its number and its bit
   pub halted_at : ToldNext L Good s at stop next → stop < next → stop < 4294967296 → (p : BitPos) → p.0 ≡ next % 4294967296
       → Refuses L s (cursor at stop) (next / 4294967296) p
   halted_at (goes a g t) far small p is = absurd (omega (arith, t.within.order))
@@ -37,8 +37,3 @@ module _ {A : Type 0} {L : Layout A} {Good : A → Type 0} {s : List ℕ} {at st
       let a : number ≡ next / 4294967296 = omega (arith, r.upto) in
       let b : bit ≡ p.0 = omega (arith, r.upto) in
       subst₂ (λ (k q : ℕ). Refuses L s (cursor at stop) k (record { 0 = q })) a b r
-
--- of the two numbers it is the other
-pub halted_nine : {number : ℕ} → Halting number → (number ≡ 6 → ⊥) → 9 ≡ number
-halted_nine (inl six) not-six = absurd (not-six six)
-halted_nine (inr nine) not-six = sym nine

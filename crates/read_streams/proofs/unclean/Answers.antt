@@ -1,5 +1,6 @@
 use Rattle.std.proofs.Common.{◌≡◌, ap, ◌∙◌, arith}
 use Rattle.bits.specs.declared.BitPos.{BitPos}
+use Rattle.lists.specs.Laws.Tests.{unless_equal}
 use Rattle.read_streams.specs.Laws.Streams.{padding_long, padding_zero, padding_one}
 use Rattle.read_streams.proofs.unclean.Goals as goal
 
@@ -13,12 +14,9 @@ number-requires c =
     let at : c.bit.result ≡ c.args.c.at.0 = c.bit.ensures ∙ ap (λ (p : BitPos). p.0) c.at.ensures in
     (omega (arith, w.order, w.inside, at, c.left-rest.ensures), omega (arith, c.if-longer.false), w.small)
 
-pub returns-then-number-eq0 : goal.returns-then-number-eq0
-returns-then-number-eq0 c =
-    let at : c.bit.result ≡ c.args.c.at.0 = c.bit.ensures ∙ ap (λ (p : BitPos). p.0) c.at.ensures in
-    padding_zero c.args.s.now c.args.c c.requires _ _ _ at c.left-rest.ensures c.number.ensures (omega (arith, c.if-longer.false)) c.if-number-eq0.true
-
 pub returns : goal.returns
 returns c =
     let at : c.bit.result ≡ c.args.c.at.0 = c.bit.ensures ∙ ap (λ (p : BitPos). p.0) c.at.ensures in
-    padding_one c.args.s.now c.args.c c.requires _ _ _ at c.left-rest.ensures c.number.ensures c.if-number-eq0.false
+    unless_equal _ _
+    (padding_one c.args.s.now c.args.c c.requires _ _ _ at c.left-rest.ensures c.number.ensures)
+    (padding_zero c.args.s.now c.args.c c.requires _ _ _ at c.left-rest.ensures c.number.ensures (omega (arith, c.if-longer.false)))

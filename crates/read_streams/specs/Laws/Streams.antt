@@ -1,6 +1,6 @@
 -- Going on in a stream, and what its end or a failing record comes to.
-use Rattle.std.specs.Prelude.{◌≡◌, refl, List, ℕ, ◌+◌, ◌-◌, ◌≤◌, ◌<◌, ℤ, length, take, drop}
-use Rattle.std.proofs.Common.{sym, ap, ap₂, ◌∙◌, subst, subst₂, le_refl, mod-eq_of_lt, pow_pos, arith, take_all}
+use Rattle.std.specs.Prelude.{◌≡◌, refl, Ok, Err, List, ℕ, ◌+◌, ◌-◌, ◌≤◌, ◌<◌, ℤ, length, take, drop}
+use Rattle.std.proofs.Common.{sym, ap, ap₂, ◌∙◌, subst, le_refl, mod-eq_of_lt, pow_pos, arith, take_all}
 use Rattle.layout.specs.Bits.{bits_of, in_bits}
 use Rattle.layout.specs.Layout.{Layout}
 use Rattle.layout.specs.Laws.Bits.{val}
@@ -18,13 +18,11 @@ use Rattle.headings.specs.declared.Heading.{Heading}
 use Rattle.reading.specs.Laws.Steps.{told_at, at_bit}
 use Rattle.read_headings.specs.Told.{body_of, Headed, Ended}
 use Rattle.reading.specs.Refusals.{refusal_number}
-use Rattle.reading.specs.declared.Refusal.{Refusal}
+use Rattle.reading.specs.declared.Refused.{Refused}
 use Rattle.read_bodies.specs.Laws.Bodies.{counted_values}
 use Rattle.read_streams.specs.Streams.{Passing}
 use Rattle.read_streams.specs.Told as Told
 use Rattle.read_streams.specs.Told.{ToldPassed}
-use Rattle.read_streams.specs.declared.Passed.{Passed}
-use Rattle.read_streams.specs.declared.Passed.TheVariants as OfPassed
 
 pub passing_none : (s : List ℕ) (start : Cursor) → Within start (length s) → Passing s start start 0 0
 passing_none s start w = record { within = w; stop = refl; whole = λ x k. k; few = omega arith; small = omega arith }
@@ -85,21 +83,16 @@ module _ (s : List ℕ) (c : Cursor) (w : Within c (length s)) where
       sym (in_bits_val (left c s)) ∙ ap (in_bits (length (left c s))) (sym left_val ∙ z) ∙ in_bits_zero (length (left c s)),
     )
 
-    pub padding_one : (n ≡ 0 → ⊥) → Padding (left c s) → ⊥
-    padding_one h p =
+    pub padding_one : Padding (left c s) → n ≡ 0
+    padding_one p =
         let k = length (left c s) in
-        h (left_val ∙ ap val (p.1 ∙ sym (in_bits_zero k)) ∙ val_in_bits k 0 ∙ mod-eq_of_lt (pow_pos k))
+        left_val ∙ ap val (p.1 ∙ sym (in_bits_zero k)) ∙ val_in_bits k 0 ∙ mod-eq_of_lt (pow_pos k)
 
 -- ---- a body that was passed
 
 module _ {L : Layout (List ℤ)} {s : List ℕ} {c : Cursor} where
-  pub was_after : {r : Passed} {d : Cursor} → ToldPassed L s c r → r ≡ OfPassed.After d → (vs : List ℤ) × Taken L s c vs d
-  was_after (Told.after vs t) e = (vs, subst (λ (x : Cursor). Taken L s c vs x) (cc) t)
-  was_after (Told.no k) e = let z : ◌≡◌ {A = ℕ} 0 1 = cc in absurd (omega arith)
+  pub was_after : {d : Cursor} → ToldPassed L s c (Ok d) → (vs : List ℤ) × Taken L s c vs d
+  was_after (Told.after vs t) = (vs, t)
 
-  pub was_not_passed : {r : Passed} {m : Refusal} {p : BitPos} → ToldPassed L s c r → r ≡ OfPassed.No m p → Refuses L s c (refusal_number m) p
-  was_not_passed (Told.after vs t) e = let z : ◌≡◌ {A = ℕ} 0 1 = cc in absurd (omega arith)
-  was_not_passed {m = m} {p = p} (Told.no {m = n} {p = q} k) e =
-      let f : n ≡ m = cc in
-      let g : q ≡ p = cc in
-      subst₂ (λ (x : Refusal) (y : BitPos). Refuses L s c (refusal_number x) y) f g k
+  pub was_not_passed : {r : Refused} → ToldPassed L s c (Err r) → Refuses L s c (refusal_number r.why) r.at
+  was_not_passed (Told.no k) = k

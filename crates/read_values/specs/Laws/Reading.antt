@@ -19,8 +19,10 @@ abbrev Left : (ℕ → List Bool) → Kind → ℕ → List ℕ → Cursor → �
 Left image t n s start p c vs m = Reached (words_by image t n) s start (chain (value_by image t) m p) (λ more. vs ++ more) c
 
 module _ {image : ℕ → List Bool} {t : Kind} {n : ℕ} {s : List ℕ} {start : Cursor} where
-  pub read_none : Within start (length s) → Reading image t n s start 0 (pos 0) start []
-  read_none w = record { count = refl; reached = subst (Left image t n s start (pos 0) start []) (sym (sub-zero n)) (here w) }
+  pub read_none : {p : ℤ} → p ≡ pos 0 → Within start (length s) → Reading image t n s start 0 p start []
+  read_none e w =
+      subst (λ (z : ℤ). Reading image t n s start 0 z start []) (sym e)
+      (record { count = refl; reached = subst (Left image t n s start (pos 0) start []) (sym (sub-zero n)) (here w) })
 
   module _ {i : ℕ} {p : ℤ} {c : Cursor} {vs : List ℤ} (r : Reading image t n s start i p c vs) where
     one_left : i < n → Left image t n s start p c vs (suc (n - (i + 1)))

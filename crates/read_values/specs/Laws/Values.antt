@@ -1,30 +1,17 @@
 -- The value that a word stands for, or that it stands for none.
-use Rattle.std.specs.Prelude.{◌≡◌, refl, Bool, List, ℕ, ◌+◌, ◌-◌, ◌≤◌, ◌<◌, ℤ, pos, negsuc, length}
-use Rattle.std.proofs.Common.{◌∙◌, arith}
-use Rattle.layout.specs.Layout.{PrefixFree, word}
+use Rattle.std.specs.Prelude.{◌≡◌, refl, Some, None, Bool, List, ℕ, ◌+◌, ◌-◌, ◌≤◌, ◌<◌, ℤ, pos, negsuc, length}
+use Rattle.std.proofs.Common.{sym, ◌∙◌, subst, arith}
+use Rattle.layout.specs.Layout.{word}
 use Rattle.format.specs.Limits.{largest_instant}
 use Rattle.format.specs.Codes.{Word}
 use Rattle.format.specs.Kinds.{Kind, Plain, Instants, Corrections, InRange, Fits, word_of}
 use Rattle.bits.specs.Cursor.{Within, Taken, Refuses}
-use Rattle.bits.specs.declared.BitPos.{BitPos}
 use Rattle.bits.specs.declared.Cursor.{Cursor}
-use Rattle.read_words.specs.Told.{ToldWord}
-use Rattle.read_words.specs.declared.Read.{Read}
-use Rattle.read_words.specs.declared.Read.TheVariants.{Cut, Bad}
-use Rattle.reading.specs.Laws.Steps.{taken_only, no_field, no_value}
-use Rattle.reading.specs.Laws.Words.{word_cut, word_bad}
-use Rattle.read_values.specs.Told.{value_by}
+use Rattle.reading.specs.Laws.Steps.{taken_only, no_value}
+use Rattle.read_values.specs.Told as Told
+use Rattle.read_values.specs.Told.{value_by, Formed}
 
--- ---- no word is there
-
-module _ (t : Kind) (p : ℤ) {image : ℕ → List Bool} {s : List ℕ} {c : Cursor} {r : Read} (told : ToldWord Word image s c r) (w : Within c (length s)) where
-  pub value_cut : r ≡ Cut → Refuses (value_by image t p) s c 6 c.at
-  value_cut e = no_field (word_cut told w e)
-
-  pub value_bad : PrefixFree Word image → {q : BitPos} → r ≡ Bad q → Refuses (value_by image t p) s c 9 c.at
-  value_bad free e = no_field (word_bad told w free e)
-
--- ---- a word is there
+-- ---- what is formed, by its kind
 
 instant_none : (p w : ℕ) → largest_instant < p + w - 1 → (v : ℤ) → Fits Instants (pos p) v → word_of Instants (pos p) v ≡ w → ⊥
 instant_none p w h (pos n) f e = omega (arith, f.0, f.1)
@@ -39,22 +26,29 @@ word_after : (p v : ℤ) → word_of Corrections p v ≡ word_of Corrections (po
 word_after p (pos n) = refl
 word_after p (negsuc n) = refl
 
-module _ {image : ℕ → List Bool} {s : List ℕ} {c d : Cursor} {w : ℕ} (t : Taken (word Word image) s c w d) where
-  pub plain_is : (p : ℤ) → Taken (value_by image Plain p) s c (pos w) d
-  plain_is p = taken_only (pos w) (t.takes.valid, tt) refl t
+module _ {t : Kind} {w : ℕ} where
+  pub plain_formed : (p : ℕ) → t ≡ Plain → Word w → Formed pos t (pos p) w (Some w)
+  plain_formed p e h = subst (λ (u : Kind). Formed pos u (pos p) w (Some w)) (sym e) (Told.is {v = w} (h, tt) refl)
 
-  pub instant_is : (p : ℕ) → p + w - 1 ≤ largest_instant → Taken (value_by image Instants (pos p)) s c (pos (p + w - 1)) d
-  instant_is p h =
-      let l : 1 ≤ w = t.takes.valid.0 in
-      let e : p + w - 1 - p + 1 ≡ w = omega arith in
-      taken_only (pos (p + w - 1)) (h, omega arith) e t
+  pub instant_formed : (p : ℕ) → t ≡ Instants → 1 ≤ w → p + w - 1 ≤ largest_instant → Formed pos t (pos p) w (Some (p + w - 1))
+  instant_formed p e l h =
+      let v : ℕ = p + w - 1 in
+      subst (λ (u : Kind). Formed pos u (pos p) w (Some v)) (sym e) (Told.is {v = v} (h, omega arith) (omega arith))
 
-  pub correction_is : (v p : ℤ) → InRange Corrections v → word_of Corrections (pos 0) v ≡ w → Taken (value_by image Corrections p) s c v d
-  correction_is v p h e = taken_only v (h, tt) (word_after p v ∙ e) t
+  pub instant_beyond : (p : ℕ) → t ≡ Instants → largest_instant < p + w - 1 → Formed pos t (pos p) w None
+  instant_beyond p e h = subst (λ (u : Kind). Formed pos u (pos p) w None) (sym e) (Told.none (instant_none p w h))
 
-  module _ (o : Within c (length s)) where
-    pub instant_out : (p : ℕ) → largest_instant < p + w - 1 → Refuses (value_by image Instants (pos p)) s c 10 c.at
-    instant_out p h = no_value o t (instant_none p w h)
+  pub correction_formed : {v : ℤ} (p : ℤ) → t ≡ Corrections → InRange Corrections v → word_of Corrections (pos 0) v ≡ w → Formed (λ x. x) t p w (Some v)
+  correction_formed {v} p e h k = subst (λ (u : Kind). Formed (λ x. x) u p w (Some v)) (sym e) (Told.is {v = v} (h, tt) (word_after p v ∙ k))
 
-    pub correction_out : (p : ℤ) → w ≡ 1 → Refuses (value_by image Corrections p) s c 10 c.at
-    correction_out p e = no_value o t (λ v f g. one_none p v f (g ∙ e))
+  pub correction_none : (p : ℤ) → t ≡ Corrections → w ≡ 1 → Formed (λ x. x) t p w None
+  correction_none p e f = subst (λ (u : Kind). Formed (λ x. x) u p w None) (sym e) (Told.none (λ v h g. one_none p v h (g ∙ f)))
+
+-- ---- a word at a cursor, and then its value
+
+module _ {T : Type 0} {number : T → ℤ} {t : Kind} {p : ℤ} {image : ℕ → List Bool} {s : List ℕ} {c d : Cursor} {w : ℕ} (k : Taken (word Word image) s c w d) where
+  pub value_is : {v : T} → Formed number t p w (Some v) → Taken (value_by image t p) s c (number v) d
+  value_is (Told.is {v = v} f e) = taken_only (number v) f e k
+
+  pub value_none : Within c (length s) → Formed number t p w None → Refuses (value_by image t p) s c 10 c.at
+  value_none o (Told.none h) = no_value o k h

@@ -1,5 +1,5 @@
 -- A field of n bits that holds the numbers from lo to hi.
-use Rattle.std.specs.Prelude.{◌≡◌, refl, ◌⊎◌, Bool, false, List, [], ◌∷◌, ◌++◌, ℕ, suc, ◌+◌, ◌-◌, ◌*◌, ◌/◌, ◌^◌, ◌≤◌, ◌<◌, min, length, take, drop, get_or}
+use Rattle.std.specs.Prelude.{◌≡◌, refl, ◌⊎◌, Ok, Err, Bool, false, List, [], ◌∷◌, ◌++◌, ℕ, suc, ◌+◌, ◌-◌, ◌*◌, ◌/◌, ◌^◌, ◌≤◌, ◌<◌, min, length, take, drop, get_or}
 use Rattle.std.proofs.Common.{sym, ap, ap₂, ◌∙◌, subst, subst₂, inl, inr, append_assoc, mod-eq_of_lt, mul-div_cancel, le-div_iff_mul-le, le_antisymm, le_refl, lt_of_le_of_lt, div-one, arith, pow_pos, shr_lt, length-append, length-drop, take-append-drop, take_all, take_at, take-suc, take-add, drop-cons, length-take-le}
 use Rattle.std.proofs.Math.Nat.{div-eq_of_lt, sub-zero}
 use Rattle.std.proofs.Math.Decide.{dec_le, dec_lt}
@@ -14,7 +14,7 @@ use Rattle.bits.specs.Laws.Cursor.{length_left, left_onward}
 use Rattle.bits.specs.declared.BitPos.{BitPos}
 use Rattle.bits.specs.declared.Cursor.{Cursor}
 use Rattle.read_words.specs.Told.{ToldWord, took, cut, bad, Among, Live}
-use Rattle.read_words.specs.declared.Read.TheVariants.{Took, Cut, Bad}
+use Rattle.read_words.specs.declared.NoWord.TheVariants.{Cut, Bad}
 
 -- the number that the first r of w bits stand for
 pub val_front : (l : List Bool) (w r : ℕ) → w ≤ length l → r ≤ w → val (take r l) ≡ val (take w l) / 2 ^ (w - r)
@@ -143,14 +143,14 @@ module _ {s : List ℕ} {c : Cursor} {n lo hi w v : ℕ} {d : Cursor} (read : Fi
   val_seen : val (take w (left c s)) ≡ v
   val_seen = ap val seen ∙ val_in_bits w v ∙ mod-eq_of_lt read.taken.takes.valid
 
-  pub range_took : n - w ≡ 0 → lo / 2 ^ (n - w) ≤ v → v ≤ hi / 2 ^ (n - w) → ToldWord (Among n lo hi) (in_bits n) s c (Took v d)
+  pub range_took : n - w ≡ 0 → lo / 2 ^ (n - w) ≤ v → v ≤ hi / 2 ^ (n - w) → ToldWord (Among n lo hi) (in_bits n) s c (Ok (v, d))
   range_took z low high =
       let e : w ≡ n = omega (arith, read.width) in
       let t = read.taken in
       let among : Among n lo hi v = (rw (z, div-one) at low, rw (z, div-one) at high, subst (λ (i : ℕ). v < 2 ^ i) e t.takes.valid) in
       took (record { takes = record { valid = among; front = t.takes.front ∙ ap (λ (i : ℕ). in_bits i v ++ left d s) e }; within = t.within; stop = t.stop })
 
-  pub range_cut : (n - w ≡ 0 → ⊥) → lo / 2 ^ (n - w) ≤ v → v ≤ hi / 2 ^ (n - w) → ToldWord (Among n lo hi) (in_bits n) s c Cut
+  pub range_cut : (n - w ≡ 0 → ⊥) → lo / 2 ^ (n - w) ≤ v → v ≤ hi / 2 ^ (n - w) → ToldWord (Among n lo hi) (in_bits n) s c (Err Cut)
   range_cut some x y =
       let e : w < n = omega (arith, some, read.width) in
       let f : w ≡ c.stop.0 - c.at.0 = omega (arith, read.width) in
@@ -162,7 +162,7 @@ module _ {s : List ℕ} {c : Cursor} {n lo hi w v : ℕ} {d : Cursor} (read : Fi
       cut (subst (Stops (Among n lo hi) (in_bits n)) (sym l) (range_stops n lo hi read.order read.high (in_bits w v) m g (subst₂ (λ (i j : ℕ). lo / 2 ^ i ≤ j) q (sym z) x) (subst₂ (λ (i j : ℕ). j ≤ hi / 2 ^ i) q (sym z) y)))
 
   -- the first r of them live, and one more does not
-  dead_after : (r : ℕ) → r < w → Live v w n lo hi r → ToldWord (Among n lo hi) (in_bits n) s c (Bad (onward c r).at)
+  dead_after : (r : ℕ) → r < w → Live v w n lo hi r → ToldWord (Among n lo hi) (in_bits n) s c (Err (Bad (onward c r).at))
   dead_after r l a =
       let k : w ≤ n = omega (arith, read.width) in
       let m : ℕ = n - r - 1 in
@@ -182,5 +182,5 @@ module _ {s : List ℕ} {c : Cursor} {n lo hi w v : ℕ} {d : Cursor} (read : Fi
       let dd : (val (x ++ y ∷ []) < lo / 2 ^ m) ⊎ (hi / 2 ^ m < val (x ++ y ∷ [])) = subst (λ (z : ℕ). (z < lo / 2 ^ m) ⊎ (hi / 2 ^ m < z)) (sym j) (a.dead l) in
       bad {p = (onward c r).at} (subst₂ (Dies (Among n lo hi) (in_bits n)) (sym f) (sym (left_onward s c read.within r ∙ e)) (range_dies n lo hi read.order read.high x (drop (suc r) (left c s)) y m p ll lh dd)) (omega (arith, read.within.order))
 
-  pub range_bad : {r : ℕ} {p : BitPos} → (v < lo / 2 ^ (n - w)) ⊎ (hi / 2 ^ (n - w) < v) → Live v w n lo hi r → p ≡ (onward c r).at → ToldWord (Among n lo hi) (in_bits n) s c (Bad p)
+  pub range_bad : {r : ℕ} {p : BitPos} → (v < lo / 2 ^ (n - w)) ⊎ (hi / 2 ^ (n - w) < v) → Live v w n lo hi r → p ≡ (onward c r).at → ToldWord (Among n lo hi) (in_bits n) s c (Err (Bad p))
   range_bad {r} outside a e = rw e (dead_after r (live_less v w n lo hi r a outside) a)

@@ -1,13 +1,12 @@
 -- Variable-byte, a flag and a group at a time. The groups read so far are a number, and what is left to read are the words that begin with them.
-use Rattle.std.specs.Prelude.{◌≡◌, Bool, List, [], ◌∷◌, ◌++◌, length}
+use Rattle.std.specs.Prelude.{◌≡◌, Result, Ok, Err, Bool, List, [], ◌∷◌, ◌++◌, length}
 use Rattle.std.proofs.Math.Path.{refl, sym, ap}
 use Rattle.std.proofs.Common.{ap₂, ◌∙◌, subst, pow-suc, div-mul-le_self, mul-le-mul_left, zero-lt-suc, le-div_iff_mul-le}
 use Prim.Native.Nat.{ℕ, zero, suc, ◌+◌, ◌-◌, ◌*◌, ◌/◌, ◌%◌, ◌^◌, ◌≤◌, ◌<◌}
 use Rattle.std.proofs.Math.Nat.{pow-le-pow_right, div-div-eq-div-mul, div-one, one-le-pow, div-eq_of_lt, sub-zero}
 use native.Mathlib.Omega.{arith}
 use Rattle.layout.specs.Bits.{odd, in_bits}
-use Rattle.layout.specs.Layout.{PrefixFree, Stops, word}
-use Rattle.layout.specs.Dead.{Dies}
+use Rattle.layout.specs.Layout.{PrefixFree, word}
 use Rattle.layout.proofs.Laws.Beginnings.{splits_free}
 use Rattle.layout.proofs.Laws.Bits.{in_bits_split, in_bits_mod, in_bits_one}
 use Rattle.layout.proofs.Laws.Parts.{Parts}
@@ -16,13 +15,11 @@ use Rattle.format.specs.Codes.{Word, digits, another, groups, variable_byte}
 use Rattle.format.specs.Restated.{Held}
 use Rattle.format.proofs.Laws.Digits.{held_one}
 use Rattle.format.proofs.Laws.Codes.{grouped_word}
-use Rattle.bits.specs.Cursor.{Within, left, to, Taken}
-use Rattle.bits.specs.declared.BitPos.{BitPos}
+use Rattle.bits.specs.Cursor.{Within, left, Taken}
 use Rattle.bits.specs.declared.Cursor.{Cursor}
-use Rattle.read_words.specs.Told.{ToldWord, took, cut, bad, Among, made}
-use Rattle.read_words.specs.Laws.Told.{first_cut, first_bad, second_cut, second_bad, both_took, second_told}
-use Rattle.read_words.specs.declared.Read.{Read}
-use Rattle.read_words.specs.declared.Read.TheVariants.{Took, Cut, Bad}
+use Rattle.read_words.specs.Told.{ToldWord, took, Among}
+use Rattle.read_words.specs.Laws.Told.{first_refused, second_refused, second_told}
+use Rattle.read_words.specs.declared.NoWord.{NoWord}
 
 -- ---- a flag and a group
 
@@ -51,10 +48,10 @@ module _ (most lo : ℕ) (h : most ≤ 1) (l : lo ≤ 1) where
         from = λ flag x k m. let (u, q) = unit_made flag x k m in (flag * 128 + x, u, q);
       }
 
-  pub unit_told : {s : List ℕ} {c d : Cursor} {flag : ℕ} {r : Read} → Taken (word (Among 1 0 most) (in_bits 1)) s c flag d → ToldWord (Among 7 lo 127) (in_bits 7) s d r
-      → ToldWord (FlagAndGroup most lo) (in_bits 8) s c (made (λ (x : ℕ). flag * 128 + x) r)
+  pub unit_told : {s : List ℕ} {c d e : Cursor} {flag x : ℕ} → Taken (word (Among 1 0 most) (in_bits 1)) s c flag d → ToldWord (Among 7 lo 127) (in_bits 7) s d (Ok (x, e))
+      → ToldWord (FlagAndGroup most lo) (in_bits 8) s c (Ok (flag * 128 + x, e))
   unfolding unit_parts
-  unit_told {flag = flag} t = second_told unit_parts t (λ (x : ℕ). flag * 128 + x) (λ x. unit_made flag x t.takes.valid)
+  unit_told {flag = flag} {x = x} t = second_told unit_parts t (unit_made flag x t.takes.valid)
 
 -- ---- the words that begin with the groups read so far
 
@@ -215,28 +212,23 @@ pub record Reached (s : List ℕ) (c : Cursor) (acc : ℕ) (d : Cursor) : Type 0
   pub room : acc * 128 ≤ largest_word
   pub i : ℕ
   pub state : State i acc
-  pub told : (r : Read) → ToldWord (Rest i acc 1) (rest_bits i) s d r → ToldWord Word variable_byte s c r
+  pub told : {r : Result (ℕ × Cursor) NoWord} → ToldWord (Rest i acc 1) (rest_bits i) s d r → ToldWord Word variable_byte s c r
 
 module _ {s : List ℕ} {c : Cursor} {acc : ℕ} {d : Cursor} (h : Reached s c acc d) where
   -- a word whose next flag and group are cut short, or dead at a bit, is so itself
-  pub unit_cut : Stops (NextGroup acc) (in_bits 8) (left d s) → ToldWord Word variable_byte s c Cut
-  unit_cut k = h.told Cut (first_cut (rest_parts h.i acc h.state) k)
-
-  pub unit_bad : {p : BitPos} → Dies (NextGroup acc) (in_bits 8) (left d s) (left (to d p) s) × (p.0 ≤ d.stop.0) → ToldWord Word variable_byte s c (Bad p)
-  unit_bad {p} k = h.told (Bad p) (first_bad (rest_parts h.i acc h.state) k)
+  pub unit_refused : {e : NoWord} → ToldWord (NextGroup acc) (in_bits 8) s d (Err e) → ToldWord Word variable_byte s c (Err e)
+  unit_refused k = h.told (first_refused (rest_parts h.i acc h.state) k)
 
   module _ {v : ℕ} {e : Cursor} (t : Taken (word (NextGroup acc) (in_bits 8)) s d v e) where
     -- what is told of the rest after a flag and a group
-    told_after : (r : Read) → ToldWord (Rest (suc h.i) (acc * 128 + v % 128) (v / 128)) (rest_bits (suc h.i)) s e r → ToldWord Word variable_byte s c r
+    told_after : (r : Result (ℕ × Cursor) NoWord) → ToldWord (Rest (suc h.i) (acc * 128 + v % 128) (v / 128)) (rest_bits (suc h.i)) s e r → ToldWord Word variable_byte s c r
     unfolding rest_parts
-    told_after (Took w f) (took u) =
-        let (k, q) = before h.i acc h.state v w t.takes.valid.2 u.takes.valid in
-        h.told (Took w f) (both_took (rest_parts h.i acc h.state) t w u k (ap (λ (x : ℕ). (x, w)) q))
-    told_after Cut (cut k) = h.told Cut (second_cut (rest_parts h.i acc h.state) t k)
-    told_after (Bad p) (bad k l) = h.told (Bad p) (second_bad (rest_parts h.i acc h.state) t (k, l))
+    told_after (Ok (w, f)) k =
+        h.told (second_told (rest_parts h.i acc h.state) t (λ u. let (k, q) = before h.i acc h.state v w t.takes.valid.2 u in (k, ap (λ (x : ℕ). (x, w)) q)) k)
+    told_after (Err e) k = h.told (second_refused (rest_parts h.i acc h.state) t k)
 
     -- no group follows
-    pub last : v / 128 ≡ 0 → ToldWord Word variable_byte s c (Took (acc * 128 + v % 128) e)
+    pub last : v / 128 ≡ 0 → ToldWord Word variable_byte s c (Ok (acc * 128 + v % 128, e))
     unfolding groups
     last z =
         let w : ℕ = acc * 128 + v % 128 in
@@ -245,7 +237,7 @@ module _ {s : List ℕ} {c : Cursor} {acc : ℕ} {d : Cursor} (h : Reached s c a
         let n = size_is w h.i k (next_held h.i acc (v % 128) h.state (omega arith) l) in
         let q : size7 w - suc h.i ≡ 0 = omega arith in
         let u : Rest (suc h.i) w (v / 128) w = record { word = k; g = 0; size = omega arith; top = div-one w; more = sym z } in
-        told_after (Took w e) (took (record { takes = record { valid = u; front = ap (λ (m : ℕ). groups m w ++ left e s) (sym q) }; within = t.within; stop = refl }))
+        told_after (Ok (w, e)) (took (record { takes = record { valid = u; front = ap (λ (m : ℕ). groups m w ++ left e s) (sym q) }; within = t.within; stop = refl }))
 
     -- another one follows
     pub next : 1 ≤ v / 128 → Reached s c (acc * 128 + v % 128) e
@@ -257,7 +249,7 @@ module _ {s : List ℕ} {c : Cursor} {acc : ℕ} {d : Cursor} (h : Reached s c a
           room = omega arith;
           i = suc h.i;
           state = (next_held h.i acc (v % 128) h.state (omega arith) l, omega arith);
-          told = λ r k. told_after r (subst (λ (x : ℕ). ToldWord (Rest (suc h.i) (acc * 128 + v % 128) x) (rest_bits (suc h.i)) s e r) (sym q) k);
+          told = λ {r} k. told_after r (subst (λ (x : ℕ). ToldWord (Rest (suc h.i) (acc * 128 + v % 128) x) (rest_bits (suc h.i)) s e r) (sym q) k);
         }
 
 -- before anything has been read all the groups are left: a word is no bits, and then its groups
@@ -277,12 +269,11 @@ whole =
 
 pub start : (s : List ℕ) (c : Cursor) → Within c (length s) → Reached s c 0 c
 unfolding whole
-start s c h = record { within = h; room = omega arith; i = 0; state = refl; told = told }
+start s c h = record { within = h; room = omega arith; i = 0; state = refl; told = λ {r}. told r }
   where
     none : Taken (word (λ (a : ℕ). a ≡ 0) (λ a. [])) s c 0 c
     none = record { takes = record { valid = refl; front = refl }; within = h; stop = refl }
 
-    told : (r : Read) → ToldWord (Rest 0 0 1) (rest_bits 0) s c r → ToldWord Word variable_byte s c r
-    told (Took w f) (took u) = both_took whole none w u u.takes.valid.word refl
-    told Cut (cut k) = second_cut whole none k
-    told (Bad p) (bad k l) = second_bad whole none (k, l)
+    told : (r : Result (ℕ × Cursor) NoWord) → ToldWord (Rest 0 0 1) (rest_bits 0) s c r → ToldWord Word variable_byte s c r
+    told (Ok (w, f)) k = second_told whole none (λ u. (u.word, refl)) k
+    told (Err e) k = second_refused whole none k

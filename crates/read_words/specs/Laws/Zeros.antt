@@ -1,5 +1,5 @@
 -- Zeros and a one.
-use Rattle.std.specs.Prelude.{◌≡◌, refl, Bool, true, false, List, [], ◌∷◌, ◌++◌, ℕ, zero, suc, ◌+◌, ◌-◌, ◌≤◌, ◌<◌, length, drop}
+use Rattle.std.specs.Prelude.{◌≡◌, refl, Ok, Err, Bool, true, false, List, [], ◌∷◌, ◌++◌, ℕ, zero, suc, ◌+◌, ◌-◌, ◌≤◌, ◌<◌, length, drop}
 use Rattle.std.proofs.Common.{sym, ap, ◌∙◌, subst, subst₂, append_assoc, arith, drop_at}
 use Rattle.std.proofs.lemmas.List.{length-replicate, replicate-append-replicate}
 use Rattle.layout.specs.Bits.{zeros}
@@ -10,7 +10,7 @@ use Rattle.bits.specs.Laws.Cursor.{length_left, left_onward, onward_within}
 use Rattle.bits.specs.Laws.Runs.{one_after, no_more, past_one}
 use Rattle.bits.specs.declared.Cursor.{Cursor}
 use Rattle.read_words.specs.Told.{ToldWord, took, cut, bad, Upto, run}
-use Rattle.read_words.specs.declared.Read.TheVariants.{Took, Cut, Bad}
+use Rattle.read_words.specs.declared.NoWord.TheVariants.{Cut, Bad}
 
 -- z zeros are the beginning of a run that ends
 run_stops : (most z : ℕ) → z ≤ most → Stops (Upto most) run (zeros z)
@@ -39,10 +39,10 @@ run_dies most x =
     }
 
 module _ (s : List ℕ) (c : Cursor) (h : Within c (length s)) (most z : ℕ) (r : ZeroRun (left c s) z) (l : z ≤ c.stop.0 - c.at.0) where
-  pub run_cut : z ≤ most → z ≡ c.stop.0 - c.at.0 → ToldWord (Upto most) run s c Cut
+  pub run_cut : z ≤ most → z ≡ c.stop.0 - c.at.0 → ToldWord (Upto most) run s c (Err Cut)
   run_cut k e = cut (subst (Stops (Upto most) run) (sym (no_more (left c s) z r (omega (arith, length_left s c h)))) (run_stops most z k))
 
-  pub run_took : z ≤ most → z < c.stop.0 - c.at.0 → ToldWord (Upto most) run s c (Took z (onward c (z + 1)))
+  pub run_took : z ≤ most → z < c.stop.0 - c.at.0 → ToldWord (Upto most) run s c (Ok (z, onward c (z + 1)))
   run_took k g =
       let (t, e) = one_after (left c s) z r (omega (arith, length_left s c h)) in
       took (record {
@@ -51,7 +51,7 @@ module _ (s : List ℕ) (c : Cursor) (h : Within c (length s)) (most z : ℕ) (r
         stop = refl;
       })
 
-  pub run_bad : most < z → ToldWord (Upto most) run s c (Bad (onward c most).at)
+  pub run_bad : most < z → ToldWord (Upto most) run s c (Err (Bad (onward c most).at))
   run_bad k =
       let j : ℕ = z - suc most in
       let x : List Bool = zeros j ++ r.rest in

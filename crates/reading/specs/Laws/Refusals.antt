@@ -1,6 +1,7 @@
 -- A refusal is known by its number, and with the bit that it tells by what document 01 says of both.
-use Rattle.std.specs.Prelude.{◌≡◌, refl, [], ◌∷◌, ℕ, ◌-◌, get_or}
+use Rattle.std.specs.Prelude.{◌≡◌, refl, Result, Err, IsErrAnd, [], ◌∷◌, ℕ, ◌-◌, get_or}
 use Rattle.std.proofs.Common.{sym, ap, ap₂, ◌∙◌}
+use Rattle.std.proofs.lemmas.Result.{err_from_is_err_and}
 use Rattle.format.specs.Answers.{Outcome, refuses}
 use Rattle.bits.specs.Laws.Same.{bit_same}
 use Rattle.bits.specs.declared.BitPos.{BitPos}
@@ -32,3 +33,7 @@ refused_same make m n p q e =
     let f : refusal_number m ≡ refusal_number n = cc in
     let g : p.0 ≡ q.0 = cc in
     ap₂ make (refusal_same m n f) (bit_same p q g)
+
+-- an error that a `?` hands on
+pub handed_on : {T E : Type 0} {r : Result T E} {e : E} → IsErrAnd r (λ (x : E). x ≡ e) → r ≡ Err e
+handed_on {r = r} h = let (x, is, same) = err_from_is_err_and r h in is ∙ ap Err same

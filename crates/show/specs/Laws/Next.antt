@@ -1,5 +1,5 @@
 -- A reader asked for one kind after another settles what stands next in a checked stream.
-use Rattle.std.specs.Prelude.{◌≡◌, refl, ◌⊎◌, Bool, List, ◌++◌, ℕ, ◌+◌, ◌-◌, ◌*◌, ◌≤◌, ℤ, length, take, drop}
+use Rattle.std.specs.Prelude.{◌≡◌, refl, ◌⊎◌, Result, Ok, Err, Bool, List, ◌++◌, ℕ, ◌+◌, ◌-◌, ◌*◌, ◌≤◌, ℤ, length, take, drop}
 use Rattle.std.proofs.Common.{sym, ap, ◌∙◌, subst, subst₂, inl, inr, append_assoc, le_refl, le_trans, arith, length-append, length-drop, drop-drop, drop_at, take_all, length-take-le}
 use Rattle.layout.specs.Bits.{bits_of}
 use Rattle.layout.specs.Layout.{Takes, first, second, value}
@@ -20,8 +20,9 @@ use Rattle.format.proofs.Laws.Reading.{told_one, reads_one}
 use Rattle.format.proofs.Laws.Outcomes.{reads_accepted, accepted_reads}
 use Rattle.headings.specs.Headings.{kind_of, headed}
 use Rattle.reading.specs.Refusals.{refusal_number}
-use Rattle.read_records.specs.declared.Read.{Read}
-use Rattle.read_records.specs.declared.Read.TheVariants.{Record, End, Refused}
+use Rattle.reading.specs.declared.Refused.{Refused}
+use Rattle.read_records.specs.declared.Found.{Found}
+use Rattle.read_records.specs.declared.Found.TheVariants.{Record, End}
 use Rattle.read_entries.specs.Reads.{ReadsInto}
 use Rattle.show.specs.Next as Next
 use Rattle.show.specs.Next.{on_from, GoesOn, Ahead, OtherKind}
@@ -127,17 +128,16 @@ module _ {bytes : List ℕ} {at : ℕ} {f : Family} {kind : ℕ} {t : Kind} {old
 
 module _ {bytes : List ℕ} {at : ℕ} {f : Family} {kind : ℕ} {t : Kind} {old new : List ℤ} (g : GoesOn bytes at) (asked : Told f kind t) (room : longest_list ≤ length old) where
   -- a 7: a record stands there, of another kind
-  pub other : (r : Read) → ReadsInto bytes at (8 * length bytes) f kind old r new → OtherKind r → (a : Ahead bytes at) × (a.entry.kind ≡ t → ⊥)
-  other (Record h n p) s o = absurd o
-  other (End p) s o = absurd o
-  other (Refused m p) s o = go (ahead g)
+  pub other : (r : Result Found Refused) → ReadsInto bytes at (8 * length bytes) f kind old r new → OtherKind r → (a : Ahead bytes at) × (a.entry.kind ≡ t → ⊥)
+  other (Ok f) s o = absurd o
+  other (Err r) s o = go (ahead g)
     where
       go : Ahead bytes at ⊎ ((rest : List Bool) × (on_from bytes at ≡ end_mark ++ rest)) → (a : Ahead bytes at) × (a.entry.kind ≡ t → ⊥)
       go (inl a) = (a, λ e. let q = asked_kind g asked room s.reads a e in let z : ◌≡◌ {A = ℕ} 0 1 = cc in omega arith)
       go (inr (rest, e)) = let q = asked_end g asked room s.reads rest e in let z : ◌≡◌ {A = ℕ} 0 1 = cc in absurd (omega arith)
 
-  pub settled : (lists : Kind → List ℤ) → lists t ≡ new → (r : Read) → ReadsInto bytes at (8 * length bytes) f kind old r new → (OtherKind r → ⊥) → Next.Next bytes at lists r
-  settled lists l (Record h n p) s o =
+  pub settled : (lists : Kind → List ℤ) → lists t ≡ new → (r : Result Found Refused) → ReadsInto bytes at (8 * length bytes) f kind old r new → (OtherKind r → ⊥) → Next.Next bytes at lists r
+  settled lists l (Ok (Record h n p)) s o =
       let c = reads_accepted bytes at (8 * length bytes) f kind old (headed h (take n new)) p.0 new s.reads in
       let e : kind_of h.kind ≡ t = told_one c.told asked in
       let own : take n (lists (kind_of h.kind)) ≡ take n new = ap (take n) (ap lists e ∙ l) in
@@ -156,9 +156,9 @@ module _ {bytes : List ℕ} {at : ℕ} {f : Family} {kind : ℕ} {t : Kind} {old
       on : {r : Records.Record} {rest : List Bool} → Takes any_record (on_from bytes at) r rest → Ahead bytes at ⊎ ((rest : List Bool) × (on_from bytes at ≡ end_mark ++ rest)) → GoesOn bytes (told_bit (8 * length bytes) rest)
       on k (inl a) = subst (λ (u : List Bool). GoesOn bytes (told_bit (8 * length bytes) u)) (takes_one (record_sound anyone) a.takes k).1 a.on
       on k (inr (u, e)) = absurd (takes_no_end anyone k u e)
-  settled lists l (End p) s o = go (ahead g)
+  settled lists l (Ok (End p)) s o = go (ahead g)
     where
-      go : Ahead bytes at ⊎ ((rest : List Bool) × (on_from bytes at ≡ end_mark ++ rest)) → Next.Next bytes at lists (End p)
+      go : Ahead bytes at ⊎ ((rest : List Bool) × (on_from bytes at ≡ end_mark ++ rest)) → Next.Next bytes at lists (Ok (End p))
       go (inl a) = absurd (no_end a (is_kind a.entry.kind t))
         where
           no_end : (a : Ahead bytes at) → Dec (a.entry.kind ≡ t) → ⊥
@@ -168,14 +168,14 @@ module _ {bytes : List ℕ} {at : ℕ} {f : Family} {kind : ℕ} {t : Kind} {old
           let q = asked_end g asked room s.reads rest e in
           let w : p.0 ≡ told_bit (8 * length bytes) rest = cc in
           Next.ended rest e (w ∙ told_after bytes at end_mark rest g.inside e)
-  settled lists l (Refused m p) s o = go (ahead g)
+  settled lists l (Err r) s o = go (ahead g)
     where
-      go : Ahead bytes at ⊎ ((rest : List Bool) × (on_from bytes at ≡ end_mark ++ rest)) → Next.Next bytes at lists (Refused m p)
+      go : Ahead bytes at ⊎ ((rest : List Bool) × (on_from bytes at ≡ end_mark ++ rest)) → Next.Next bytes at lists (Err r)
       go (inl a) = absurd (seven (is_kind a.entry.kind t))
         where
           seven : Dec (a.entry.kind ≡ t) → ⊥
           seven (yes e) = let q = asked_kind g asked room s.reads a e in let z : ◌≡◌ {A = ℕ} 0 1 = cc in omega arith
-          seven (no e) = let (u, q) = asked_other g asked room s.reads a e in let w : refusal_number m ≡ 7 = cc in o w
+          seven (no e) = let (u, q) = asked_other g asked room s.reads a e in let w : refusal_number r.why ≡ 7 = cc in o w
       go (inr (rest, e)) = let q = asked_end g asked room s.reads rest e in let z : ◌≡◌ {A = ℕ} 0 1 = cc in absurd (omega arith)
 
 -- a record that is of neither other kind has corrections

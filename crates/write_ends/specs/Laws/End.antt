@@ -1,5 +1,5 @@
 -- What the end writer's tests and writes come to, and that its contract leaves it no choice.
-use Rattle.std.specs.Prelude.{◌≡◌, false, List, ℕ, ◌+◌, ◌-◌, ◌*◌, ◌/◌, ◌≤◌, ◌<◌, length}
+use Rattle.std.specs.Prelude.{◌≡◌, Result, false, List, ℕ, ◌+◌, ◌-◌, ◌*◌, ◌/◌, ◌≤◌, ◌<◌, length}
 use Rattle.std.proofs.Common.{sym, ap, ◌∙◌, subst, arith}
 use Rattle.std.proofs.lemmas.List.{length-replicate, replicate-append-replicate}
 use Rattle.layout.specs.Bits.{Bytes, bits_of, zeros, put}
@@ -9,7 +9,8 @@ use Rattle.format.specs.Answers.{refuses, gives, Start}
 use Rattle.format.specs.Writing as Writing
 use Rattle.format.specs.Writing.{end_image, WritesEnd}
 use Rattle.format.proofs.Laws.Writing.{writes_end_one, end_room}
-use Rattle.writing.specs.declared.Wrote.{Wrote}
+use Rattle.bits.specs.declared.BitPos.{BitPos}
+use Rattle.writing.specs.declared.Unwritten.{Unwritten}
 use Rattle.writing.specs.Wrote.{outcome_of}
 use Rattle.writing.specs.Laws.Wrote.{wrote_same}
 
@@ -36,7 +37,7 @@ module _ (bytes : List ℕ) (start : ℕ) where
       let bits : bits_of after ≡ put (bits_of bytes) start (end_image start) = w ∙ ap (put (bits_of bytes) start) (ap zeros d ∙ sym z) in
       subst (λ (n : ℕ). WritesEnd bytes start (gives n) after) told (Writing.writing s (Writing.done (omega arith) b bits))
 
-  pub write_end_one : (a b : Wrote) (after after' : List ℕ) → WritesEnd bytes start (outcome_of a) after → WritesEnd bytes start (outcome_of b) after'
+  pub write_end_one : (a b : Result BitPos Unwritten) (after after' : List ℕ) → WritesEnd bytes start (outcome_of a) after → WritesEnd bytes start (outcome_of b) after'
       → (a ≡ b) × (after ≡ after')
   write_end_one a b after after' x y =
       let (e, f) = writes_end_one bytes start (outcome_of a) (outcome_of b) after after' x y in

@@ -1,5 +1,5 @@
 -- The words of a list, counted and drawn from the front.
-use Rattle.std.specs.Prelude.{◌≡◌, Bool, ℤ, pos, negsuc, length}
+use Rattle.std.specs.Prelude.{◌≡◌, Bool, ℤ, pos, length}
 use Rattle.std.proofs.Math.Path.{refl, ap, subst}
 use Rattle.std.proofs.Common.{sym, ◌∙◌, length-append, drop_of_length-le}
 use mathlib.Core.List.{List, [], ◌∷◌, ◌++◌}
@@ -8,18 +8,13 @@ use native.Mathlib.Omega.{arith}
 use Rattle.std.proofs.Math.ListN.{drop}
 use Rattle.layout.specs.Layout.{word, only, chain}
 use Rattle.format.specs.Codes.{Word}
-use Rattle.format.specs.Kinds.{Kind, Corrections, Fits, ListOf, word_of}
+use Rattle.format.specs.Kinds.{Kind, Fits, ListOf, word_of}
 use Rattle.format.specs.Records.{words_by}
 use Rattle.pen.specs.declared.Pen.{Pen}
 use Rattle.pen.specs.Pen.{Room, Drawn, Begun}
 use Rattle.pen.specs.Laws.Pen.{begun_none, begun_told, begun_more, begun_all}
 use Rattle.lists.specs.Laws.Judging.{At, at_rest}
 use Rattle.write_lists.specs.Images.{images_after, images}
-
--- the value before a correction does not matter
-pub correction_word : (p v : ℤ) → word_of Corrections (pos 0) v ≡ word_of Corrections p v
-correction_word p (pos n) = refl
-correction_word p (negsuc n) = refl
 
 module _ (image : ℕ → List Bool) (t : Kind) where
   -- they are what the layout of the body has

@@ -7,7 +7,7 @@ use Rattle.layout.specs.Bits.{in_bits, bits_of}
 use Rattle.layout.proofs.Laws.Bits.{length_in_bits, in_bits_cat}
 use Rattle.format.specs.Limits.{largest_parameter}
 use Rattle.format.specs.Codes.{gamma}
-use Rattle.format.specs.Kinds.{kind_number}
+use Rattle.format.specs.Kinds.{Kind, Plain, Instants, Corrections, kind_number}
 use Rattle.format.specs.Records.{code_number, parameter_field, record_for}
 use Rattle.bits.specs.declared.BitPos.{BitPos}
 use Rattle.pen.specs.declared.Pen.{Pen}
@@ -50,6 +50,11 @@ carried_lt Delta h = omega arith
 carried_lt (Rice k) h = omega arith
 carried_lt VariableByte h = omega arith
 carried_lt Interpolative h = omega arith
+
+pub kind_small : (t : Kind) → kind_number t ≤ 2
+kind_small Plain = omega arith
+kind_small Instants = omega arith
+kind_small Corrections = omega arith
 
 pub front_number : (h : Heading) (c t w k : ℕ) → c ≡ code_number (code_of h.code) → t ≡ kind_number (kind_of h.kind) → t ≤ 2 → w ≡ 2 ^ carried_width h.code → k ≡ carried h.code
     → carried h.code ≤ largest_parameter → in_bits (6 + carried_width h.code) ((c * 4 + t) * w + k) ≡ front h

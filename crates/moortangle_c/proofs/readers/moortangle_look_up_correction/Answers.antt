@@ -8,4 +8,4 @@ use Rattle.moortangle_c.proofs.readers.moortangle_look_up_correction.Goals as go
 pub returns : goal.returns
 returns c =
     let a = c.args in
-    tells_between flat_correction (λ (start stop : ℕ). LooksUp a.buffer.now start stop Signed a.kind a.place) c.at.ensures c.at-2.ensures c.look_up_correction.ensures c.correction_of.ensures
+    tells_between flat_correction (λ (start stop : ℕ). LooksUp a.buffer.now start stop Signed a.kind a.place) c.at.ensures c.at-2.ensures c.look_up_correction.ensures c.from.ensures

@@ -9,4 +9,4 @@ use Rattle.moortangle_c.proofs.writers.moortangle_write.Goals as goal
 pub returns : goal.returns
 returns c =
     let a = c.args in
-    tells_at flat_written (λ (start : ℕ) (x : Outcome ℕ). Writes a.buffer.now start Unsigned a.code a.parameter a.kind (map pos a.values.now) x c.write.new.buf) c.at.ensures c.write.ensures c.written_of.ensures
+    tells_at flat_written (λ (start : ℕ) (x : Outcome ℕ). Writes a.buffer.now start Unsigned a.code a.parameter a.kind (map pos a.values.now) x c.write.new.buf) c.at.ensures c.write.ensures c.from.ensures

@@ -9,4 +9,4 @@ use Rattle.moortangle_c.proofs.writers.moortangle_write_corrections.Goals as goa
 pub returns : goal.returns
 returns c =
     let a = c.args in
-    tells_at flat_written (λ (start : ℕ) (x : Outcome ℕ). Writes a.buffer.now start Signed a.code a.parameter a.kind a.values.now x c.write_corrections.new.buf) c.at.ensures c.write_corrections.ensures c.written_of.ensures
+    tells_at flat_written (λ (start : ℕ) (x : Outcome ℕ). Writes a.buffer.now start Signed a.code a.parameter a.kind a.values.now x c.write_corrections.new.buf) c.at.ensures c.write_corrections.ensures c.from.ensures

@@ -13,12 +13,12 @@ field-pen-requires c =
     let v = c.args.value in
     let w = c.args.width in
     let b = begun_told c.requires.0 l.invariant.2 in
-    (l.invariant.2.drawn.within, omega (arith, b, l.invariant.1, c.requires.1, length_led l.left w v, length_led c.args.count w v), omega arith, pow_pos c.least-w.result)
+    (l.invariant.2.drawn.within, omega (arith, b, l.invariant.1, c.requires.1, length_led l.left w v, length_led c.args.count w v), omega arith, pow_pos c.min-w.result)
 
 pub loop-left-preserved : goal.loop-left-preserved
 loop-left-preserved c =
     let i = c.loop-left.invariant in
-    (omega arith, c.field-pen.auto.buf ∙ i.1, begun_more c.requires.0 i.2 (fewer_zeros c.loop-left.left c.least-w.result (in_bits c.args.width c.args.value) (omega arith)) c.field-pen.ensures)
+    (omega arith, c.field-pen.auto.buf ∙ i.1, begun_more c.requires.0 i.2 (fewer_zeros c.loop-left.left c.min-w.result (in_bits c.args.width c.args.value) (omega arith)) c.field-pen.ensures)
 
 pub field-requires : goal.field-requires
 field-requires c =

@@ -12,7 +12,7 @@ pub loop-done-preserved : goal.loop-done-preserved
 loop-done-preserved c =
     let a = c.args in
     let done = c.loop-done.done in
-    let w = c.least-w.result in
+    let w = c.min-w.result in
     let rest = a.width - done - w in
     let inv = c.loop-done.invariant in
     let e : a.width - done ≡ rest + w = omega arith in

@@ -1,12 +1,7 @@
-use Rattle.std.proofs.Common.{arith, rules}
-use Rattle.headings.specs.Laws.Bodies.{rice_known}
+use Rattle.std.proofs.Common.{arith}
+use Rattle.headings.specs.Laws.Bodies.{rice_of}
 use Rattle.write_words.specs.Laws.ByCode.{counted}
 use Rattle.write_words.proofs.by_code.count.Goals as goal
-
-pub count-requires-in-Rice : goal.count-requires-in-Rice
-count-requires-in-Rice c =
-    let h = rice_known c.args.code c.in-Rice.k c.in-Rice.is c.requires.0 in
-    search rules
 
 pub returns-in-Gamma : goal.returns-in-Gamma
 returns-in-Gamma c = (counted c.in-Gamma.is _ _ c.count.ensures.0, omega arith)
@@ -15,7 +10,7 @@ pub returns-in-Delta : goal.returns-in-Delta
 returns-in-Delta c = (counted c.in-Delta.is _ _ c.count-in-Delta.ensures.0, omega arith)
 
 pub returns-in-Rice : goal.returns-in-Rice
-returns-in-Rice c = (counted c.in-Rice.is _ _ c.count-in-Rice.ensures.0, omega arith)
+returns-in-Rice c = (counted (rice_of c.in-Rice.is c.get.ensures.0) _ _ c.count-in-Rice.ensures.0, omega arith)
 
 pub returns-in-VariableByte : goal.returns-in-VariableByte
 returns-in-VariableByte c = (counted c.in-VariableByte.is _ _ c.count-in-VariableByte.ensures.0, omega arith)

@@ -3,9 +3,6 @@ use Rattle.std.proofs.Math.Pow.{shr_le}
 use Rattle.write_words.specs.Laws.Writes.{length_rice}
 use Rattle.write_words.proofs.rice.count.Goals as goal
 
-pub overflow_cast-result : goal.overflow_cast-result
-overflow_cast-result c = omega (arith, shr_le (c.args.w - 1) c.args.k)
-
 pub overflow_add-result : goal.overflow_add-result
 overflow_add-result c = omega (arith, shr_le (c.args.w - 1) c.args.k)
 

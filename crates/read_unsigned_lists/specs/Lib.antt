@@ -1,2 +1,0 @@
-pub mod Through
-pub mod Laws
