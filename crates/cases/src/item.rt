@@ -1,5 +1,5 @@
 // The items of a part of a line, with spaces between: numbers, and earlier items again.
-ghost use Rattle.std.specs.Prelude.{◌≤◌, length, IfSome};
+ghost use Rattle.std.specs.Prelude.{◌≤◌, ◌<◌, length, IfSome};
 
 // In which base the digits of a part stand.
 #[derive(Clone, Copy)]
@@ -50,7 +50,9 @@ struct Given {
 }
 
 // No letter but a small one is a digit, which std's `to_digit` takes otherwise.
-fn digit(b: u8) -> Option<u32> {
+fn digit(b: u8) -> Option<u32>
+    ensures { IfSome result (λ d. d < 16) }
+{
     match b {
         b'0'..=b'9' => Some(u32::from(b - b'0')),
         b'a'..=b'f' => Some(u32::from(b - b'a') + 10),

@@ -44,7 +44,7 @@ pub struct Heading {
 pub struct UnknownKind;
 
 impl From<Kind> for u32 {
-    ghost from_gives = { λ kind n. n ≡ kind_number (kind_of kind) };
+    ghost from_gives = { λ kind n. (n ≡ kind_number (kind_of kind)) × (n ≤ 2) };
 
     fn from(kind: Kind) -> u32 {
         match kind {

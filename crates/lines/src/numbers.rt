@@ -31,7 +31,9 @@ pub(crate) fn append(out: &mut [u8], at: usize, text: &[u8]) -> usize
     ensures value { result ≡ at + length text.now }
     ensures out_after { out.new ≡ paste out.old at text.now (length text.now) }
 {
-    out[at..at + text.len()].copy_from_slice(text);
+    for (i, &b) in text.iter().enumerate() {
+        out[at + i] = b;
+    }
     at + text.len()
 }
 

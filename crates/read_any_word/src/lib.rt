@@ -28,6 +28,7 @@ pub fn word(c: Cursor, s: &[u8], code: Words) -> Result<(u32, Cursor), NoWord>
 }
 
 // The same by one look at the bits from `at` on, which settles most words, and with no cursor to hand back.
+#[inline(always)]
 fn look(s: &[u8], at: usize, code: Words) -> Option<Glimpse>
     requires { (8 ≤ length s.now) × (at < 8 * length s.now) × (length s.now ≤ longest_buffer) }
     ensures { GlimpsedAt (image_by code) s.now at result }
@@ -42,6 +43,7 @@ fn look(s: &[u8], at: usize, code: Words) -> Option<Glimpse>
 }
 
 // What a look tells of the word at the cursor, if that ends before the stop.
+#[inline(always)]
 #[tactic(auto, using(glimpse_words::specs::Glimpsed::unsettled))]
 pub fn glimpse(c: Cursor, s: &[u8], code: Words) -> Option<Glimpse>
     requires { Within c (length s.now) }

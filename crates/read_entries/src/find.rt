@@ -3,10 +3,10 @@ ghost use Rattle.format.specs.Kinds.{Unsigned, Signed};
 ghost use Rattle.format.specs.Reading.{LooksUp, Searches};
 ghost use Rattle.find_in_records.specs.Told.{value_told, looked_up, looked_up_correction, searched};
 
-use crate::asked;
 use bits::BitPos;
+use headings::kind_of;
 use read_bodies::Body;
-use reading::{Refused, place};
+use reading::{Refusal, Refused, place};
 
 fn look_up_value<T: Body>(
     s: &[u8],
@@ -18,7 +18,12 @@ fn look_up_value<T: Body>(
     ensures { LooksUp s.now start.0 stop.0 T.of_family kind place (value_told T.number result) }
 {
     let c = place::span(s, start, stop)?;
-    let t = asked::<T>(kind)?;
+    let Some(t) = kind_of(T::family(), kind) else {
+        return Err(Refused {
+            why: Refusal::Unknown,
+            at: BitPos::new(0),
+        });
+    };
     find_in_records::look_up(c, s, t, place)
 }
 

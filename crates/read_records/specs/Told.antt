@@ -35,6 +35,10 @@ pub record ToldRead (t : Kind) (s : List ℕ) (c : Cursor) (old new : List ℤ) 
   pub list : new ≡ filled old (item_of r new)
   pub counted : Counted r new
 
+-- the first n values of an own list have been put in front of a lent one, whose rest has stayed
+pub record Copied {A : Type 0} (n : ℕ) (own old new : List A) : Type 0 where
+  pub front : new ≡ take n own ++ drop n old
+
 -- the list after a heading has been read
 pub data ToldListed (h : Heading) (n : ℕ) (s : List ℕ) (c : Cursor) (old new : List ℤ) : Result Found Refused → Type 0 where
   took : (vs : List ℤ) (d : Cursor) → Taken (body_of h n) s c vs d → new ≡ vs ++ drop (length vs) old → ToldListed h n s c old new (Ok (OfFound.Record h n d.at))

@@ -7,7 +7,7 @@ ghost use Rattle.format.specs.Kinds.{family_of};
 ghost use Rattle.bits.specs.Cursor.{Within};
 ghost use Rattle.headings.specs.Headings.{kind_of};
 ghost use Rattle.read_bodies.specs.Bodies.{HeadingFor};
-ghost use Rattle.read_records.specs.Told.{ToldListed, ToldRead};
+ghost use Rattle.read_records.specs.Told.{Copied, ToldListed, ToldRead};
 
 use bits::{BitPos, Cursor};
 use headings::{Heading, Kind};
@@ -25,7 +25,20 @@ pub enum Found {
     End(BitPos),
 }
 
-// The list after a heading, by way of an own list: only after the last value is judged is the lent one touched.
+// The first n values of an own list, put in front of a lent one: one by one, since a copy of the whole would be a call that the C archive
+// needs from outside.
+fn copy<T: Copy>(own: &[T], n: usize, list: &mut [T])
+    requires { (n ≤ length own.now) × (n ≤ length list.old) }
+    ensures { Copied n own.now list.old list.new }
+{
+    for i in 0..n {
+        list[i] = own[i];
+    }
+}
+
+// The list after a heading, by way of an own list: only after the last value is judged is the lent one touched. It stays out of `listed`,
+// whose own lists would let the compiler make one call of the copy.
+#[inline(never)]
 pub(crate) fn copied<T: Body>(
     c: Cursor,
     s: &[u8],
@@ -39,7 +52,7 @@ pub(crate) fn copied<T: Body>(
     ensures { ToldListed h n s.now c (map T.number list.old) (map T.number list.new) result }
 {
     let d = read_bodies::keep(c, s, h, n, own)?;
-    list[..n].copy_from_slice(&own[..n]);
+    copy(own, n, list);
     Ok(Found::Record(h, n, d.at()))
 }
 

@@ -30,19 +30,29 @@ pub trait FromWord: Item {
         ensures { result ≡ natural (Self.number self) };
 }
 
-// A word, by one look where that settles it.
+// A word that one look does not settle. It stays out of the loop that goes through a list, which seldom needs it.
+#[inline(never)]
+fn careful(c: Cursor, s: &[u8], code: Words) -> Result<(u32, Cursor), Refused>
+    requires { Within c (length s.now) }
+    ensures { ToldAnyWord (image_by code) s.now c result }
+{
+    match read_any_word::word(c, s, code) {
+        Ok((w, d)) => Ok((w, d)),
+        Err(none) => Err(Refused::word(none, c.at())),
+    }
+}
+
+// A word, by one look where that settles it. It is taken into the loop, since an answer handed back from a call goes by way of memory.
+#[inline(always)]
 fn word(c: Cursor, s: &[u8], code: Words) -> Result<(u32, Cursor), Refused>
     requires { Within c (length s.now) }
     ensures { ToldAnyWord (image_by code) s.now c result }
 {
     // a copy for the call, as `Words` says
     let by = code;
-    if let Some(seen) = read_any_word::glimpse(c, s, by) {
-        return Ok((seen.word, c.on(seen.bits)));
-    }
-    match read_any_word::word(c, s, code) {
-        Ok((w, d)) => Ok((w, d)),
-        Err(none) => Err(Refused::word(none, c.at())),
+    match read_any_word::glimpse(c, s, by) {
+        Some(seen) => Ok((seen.word, c.on(seen.bits))),
+        None => careful(c, s, code),
     }
 }
 

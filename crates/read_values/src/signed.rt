@@ -26,6 +26,6 @@ impl FromWord for i32 {
     }
 
     fn natural(self) -> u32 {
-        if 0 <= self { self as u32 } else { 0 }
+        self.max(0) as u32
     }
 }

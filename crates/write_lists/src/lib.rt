@@ -37,11 +37,14 @@ pub fn write<T: Item>(buf: &mut [u8], pen: Pen, code: Words, kind: Kind, values:
     requires room { Room (images (image_by code) (kind_of kind) (map T.number values.now)) buf.old pen }
     ensures { Drawn (images (image_by code) (kind_of kind) (map T.number values.now)) buf.old pen buf.new result }
 {
+    let n = values.len();
     let mut next = pen;
     let mut before = T::zero();
-    for &value in values {
+    // by place, so that an edit has an end to change
+    for i in 0..n {
         // a copy for the call, as `Words` says
         let by = code;
+        let value = values[i];
         next = by_code::write(buf, next, by, value.word(kind, before));
         before = value;
     }

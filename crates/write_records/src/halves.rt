@@ -1,41 +1,21 @@
-// The body by halves, which instants alone have.
-ghost use Rattle.std.specs.Prelude.{◌≡◌, map, ◌≤◌, pos, length};
-ghost use Rattle.format.specs.Limits.{longest_list};
-ghost use Rattle.format.specs.Kinds.{Unsigned, Instants, ListOf};
+// The body of a record, of whichever code: word by word, or by halves.
+ghost use Rattle.std.specs.Prelude.{◌≡◌, map, ◌≤◌, length};
 ghost use Rattle.pen.specs.Pen.{Room, Drawn};
-ghost use Rattle.write_records.specs.Images.{by_halves};
+ghost use Rattle.write_records.specs.Images.{body_image};
+ghost use Rattle.write_records.specs.Bodies.{ValidFor};
 
+use headings::Heading;
 use lists::Item;
 use pen::Pen;
 
-// The values that a body by halves may have: instants. Of corrections none is asked for, and what is told of one is nothing.
+// The values of which bodies are written. The types differ where a body goes by halves: it has instants, and of corrections there is none.
 pub trait Halved: Item {
-    fn count_by_halves(values: &[Self]) -> u64
-        requires { ListOf Instants (pos 0) (map Self.number values.now) × (length values.now ≤ longest_list) }
-        ensures { Self.of_family ≡ Unsigned → (result ≡ length (by_halves (map Self.number values.now))) × (result ≤ 131083) };
+    fn count_body(h: Heading, values: &[Self]) -> u64
+        requires { ValidFor Self.of_family h (map Self.number values.now) }
+        ensures { (result ≡ length (body_image h (map Self.number values.now))) × (result ≤ 17592186167296) };
 
-    fn write_by_halves(buf: &mut [u8], pen: Pen, values: &[Self]) -> Pen
-        requires instants { ListOf Instants (pos 0) (map Self.number values.now) × (length values.now ≤ longest_list) }
-        requires room { Room (by_halves (map Self.number values.now)) buf.old pen }
-        ensures { Self.of_family ≡ Unsigned → Drawn (by_halves (map Self.number values.now)) buf.old pen buf.new result };
-}
-
-impl Halved for u32 {
-    fn count_by_halves(values: &[u32]) -> u64 {
-        write_interpolative::count(values)
-    }
-
-    fn write_by_halves(buf: &mut [u8], pen: Pen, values: &[u32]) -> Pen {
-        write_interpolative::write(buf, pen, values)
-    }
-}
-
-impl Halved for i32 {
-    fn count_by_halves(_values: &[i32]) -> u64 {
-        0
-    }
-
-    fn write_by_halves(_buf: &mut [u8], pen: Pen, _values: &[i32]) -> Pen {
-        pen
-    }
+    fn write_body(buf: &mut [u8], pen: Pen, h: Heading, values: &[Self]) -> Pen
+        requires valid { ValidFor Self.of_family h (map Self.number values.now) }
+        requires room { Room (body_image h (map Self.number values.now)) buf.old pen }
+        ensures { Drawn (body_image h (map Self.number values.now)) buf.old pen buf.new result };
 }

@@ -4,49 +4,26 @@
 ghost use Rattle.std.specs.Prelude.{◌≡◌, map, ◌+◌, ◌*◌, ◌≤◌, length};
 ghost use Rattle.format.specs.Limits.{longest_buffer};
 ghost use Rattle.format.specs.Writing.{Puts};
-ghost use Rattle.pen.specs.Pen.{Room, Drawn};
 ghost use Rattle.write_records.specs.Written.{Written};
-ghost use Rattle.write_records.specs.Images.{record_image, body_image};
+ghost use Rattle.write_records.specs.Images.{record_image};
 ghost use Rattle.write_records.specs.Bodies.{ValidFor};
 ghost use Rattle.write_records.specs.Put.{put_outcome};
 
 use crate::halves::Halved;
 use bits::BitPos;
 use headings::Heading;
-use headings::bodies::words_of;
 use pen::Pen;
 
 pub mod halves;
 pub mod heading;
-
-fn count_body<T: Halved>(h: Heading, values: &[T]) -> u64
-    requires { ValidFor T.of_family h (map T.number values.now) }
-    ensures { (result ≡ length (body_image h (map T.number values.now))) × (result ≤ 17592186167296) }
-{
-    let kind = h.kind;
-    match words_of(h.code) {
-        Some(words) => write_lists::count(words, kind, values),
-        None => T::count_by_halves(values),
-    }
-}
-
-fn write_body<T: Halved>(buf: &mut [u8], pen: Pen, h: Heading, values: &[T]) -> Pen
-    requires valid { ValidFor T.of_family h (map T.number values.now) }
-    requires room { Room (body_image h (map T.number values.now)) buf.old pen }
-    ensures { Drawn (body_image h (map T.number values.now)) buf.old pen buf.new result }
-{
-    let kind = h.kind;
-    match words_of(h.code) {
-        Some(words) => write_lists::write(buf, pen, words, kind, values),
-        None => T::write_by_halves(buf, pen, values),
-    }
-}
+mod signed;
+mod unsigned;
 
 pub fn count<T: Halved>(h: Heading, values: &[T]) -> u64
     requires { ValidFor T.of_family h (map T.number values.now) }
     ensures { (result ≡ length (record_image h (map T.number values.now))) × (result ≤ 17592186167370) }
 {
-    heading::count(h, values.len()) + count_body(h, values)
+    heading::count(h, values.len()) + T::count_body(h, values)
 }
 
 pub fn write<T: Halved>(buf: &mut [u8], at: BitPos, h: Heading, values: &[T]) -> BitPos
@@ -56,7 +33,7 @@ pub fn write<T: Halved>(buf: &mut [u8], at: BitPos, h: Heading, values: &[T]) ->
 {
     let pen = Pen::open(buf, at);
     let after_heading = heading::write(buf, pen, h, values.len());
-    let after_body = write_body(buf, after_heading, h, values);
+    let after_body = T::write_body(buf, after_heading, h, values);
     after_body.close(buf)
 }
 

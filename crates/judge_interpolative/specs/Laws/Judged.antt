@@ -60,4 +60,4 @@ module _ {place sought d t value less : ℕ} (hi : ℕ) {s : List ℕ} {at stop 
       let ts : List ℕ = sinking 1 xs ++ t ∷ [] in
       let taken : Taken (instants_of n) s c (map pos ts) end = subst₂ (λ (x y : ℕ). Taken (instants_of n) s c (map pos ts) (cursor x y)) (sym end-at) (sym end-stop) (last.reached.then xs (cursor next stop) k) in
       let f : less + b ≡ below sought (map pos ts) = omega (arith, all.less_is, below_is sought 0 ts) in
-      Judging.whole (map pos ts) taken (ap pos (value_is ts all) ∙ sym (get_or-map pos ts place 0)) f
+      Judging.whole ts taken (ap pos (value_is ts all) ∙ sym (get_or-map pos ts place 0)) f

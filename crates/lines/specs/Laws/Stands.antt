@@ -82,7 +82,7 @@ number_stands {v} {more} {x} {mid = mid} {j = j} s d e front whole inside =
 -- ---- numbers of a line
 
 -- where as many more are announced as then come
-numbers_beside : {m more : ℕ} {vs ws : List ℤ} {old mid new : List ℕ} {at k next : ℕ}
+pub numbers_beside : {m more : ℕ} {vs ws : List ℤ} {old mid new : List ℕ} {at k next : ℕ}
     → Stands (Numbers more vs) old at mid k → Stands (Numbers m ws) mid k new next → k ≤ length old → more ≡ length ws + m → Stands (Numbers m (vs ++ ws)) old at new next
 numbers_beside {m} {more} {vs} {ws} s u room e = stands_beside s u room (λ a b x y. numbers_join (subst (λ (k : ℕ). Numbers k vs a) e x) y)
 

@@ -16,7 +16,7 @@ stored number n xs old new e = ap (map number) e ∙ map-append number xs (drop 
 
 module _ {T : Type 0} {number : T → ℤ} {L : Layout (List ℤ)} {n place sought : ℕ} {s : List ℕ} {c : Cursor} {old new : List T} where
   pub judged_through : {r : Result (Judged T) Refused} → GoneThrough number L n place sought s c old new r → ToldJudged number L place sought s c r
-  judged_through (Through.whole xs t a b e f) = Judging.whole (map number xs) t a b
+  judged_through (Through.whole xs t a b e f) = Judging.whole xs t a b
   judged_through (Through.no k) = Judging.no k
 
   pub kept_through : {r : Judged T} → n ≤ length old → GoneThrough number L n place sought s c old new (Ok r) → ToldKept L n s c (map number old) (map number new) (Ok r.after)

@@ -1,6 +1,6 @@
 -- An answer in one number that is known.
 use Rattle.std.specs.Prelude.{◌≡◌, List, ℕ, ◌*◌, ◌/◌, ◌%◌, ◌≤◌, ◌<◌, length}
-use Rattle.std.proofs.Common.{subst, subst₂, inl, inr, arith}
+use Rattle.std.proofs.Common.{sym, subst, subst₂, inl, inr, arith}
 use Rattle.layout.specs.Layout.{Layout}
 use Rattle.format.specs.Limits.{longest_buffer}
 use Rattle.bits.specs.Cursor.{Within, Taken, Refuses}
@@ -37,3 +37,8 @@ module _ {A : Type 0} {L : Layout A} {Good : A → Type 0} {s : List ℕ} {at st
       let a : number ≡ next / 4294967296 = omega (arith, r.upto) in
       let b : bit ≡ p.0 = omega (arith, r.upto) in
       subst₂ (λ (k q : ℕ). Refuses L s (cursor at stop) k (record { 0 = q })) a b r
+
+-- a refusal that is not 6 is 9
+pub halted_nine : {number : ℕ} → Halting number → (number ≡ 6 → ⊥) → 9 ≡ number
+halted_nine (inl six) other = absurd (other six)
+halted_nine (inr nine) other = sym nine

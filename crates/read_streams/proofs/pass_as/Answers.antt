@@ -7,4 +7,4 @@ pub returns-in_err-judged : goal.returns-in_err-judged
 returns-in_err-judged g c = rw (handed_on c.from_residual.ensures.1) (no (was_no c.in_err-judged.ensures))
 
 pub returns : goal.returns
-returns g c = let w = was_whole c.in_ok-judged.ensures in after w.0 w.1
+returns g c = let w = was_whole c.in_ok-judged.ensures in after _ w.1

@@ -39,7 +39,7 @@ module _ {ok : ℕ → Type 0} {bits : ℕ → List Bool} {ok' : ℕ → ℕ →
   first_refused (bad k l) = bad (first_dies p k) l
 
   module _ {a : ℕ} {d : Cursor} (t : Taken (word ok bits) s c a d) where
-    second_bad : {q : BitPos} → Dies (ok' a) (bits' a) (left d s) (left (to d q) s) → q.0 ≤ d.stop.0 → ToldWord Whole Bits s c (Err (Bad q))
+    pub second_bad : {q : BitPos} → Dies (ok' a) (bits' a) (left d s) (left (to d q) s) → q.0 ≤ d.stop.0 → ToldWord Whole Bits s c (Err (Bad q))
     second_bad {q} k l =
         let e = ap (λ (x : BitPos). x.0) t.stop in
         bad {p = q} (subst₂ (λ (x : List Bool) (y : BitPos). Dies Whole Bits x (window s q.0 y.0)) (sym t.takes.front) t.stop (second_dies p a t.takes.valid k)) (omega arith)

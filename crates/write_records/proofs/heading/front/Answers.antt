@@ -6,7 +6,7 @@ use Rattle.write_records.proofs.heading.front.Goals.{After-from}
 
 -- code and kind are few
 few : (c : After-from) → c.code_number.result * 4 + c.from.result ≤ 22
-few c = omega (arith, c.code_number.ensures.1, c.from.ensures, kind_small (kind_of c.args.h.kind))
+few c = omega (arith, c.code_number.ensures.1, c.from.ensures.0, kind_small (kind_of c.args.h.kind))
 
 pub overflow_mul-result : goal.overflow_mul-result
 overflow_mul-result c =
@@ -25,6 +25,6 @@ returns c =
     let t = c.from in
     let w = c.power.ensures.0 ∙ ap (λ (k : ℕ). 2 ^ k) c.parameter_width.ensures.0 in
     let small = kind_small (kind_of c.args.h.kind) in (
-      front_number c.args.h n.result t.result c.power.result c.parameter.result n.ensures.0 t.ensures (omega (arith, t.ensures, small)) w c.parameter.ensures c.requires,
-      front_lt c.args.h n.result t.result c.power.result c.parameter.result (omega (arith, n.ensures.1, t.ensures, small)) w c.parameter.ensures c.requires,
+      front_number c.args.h n.result t.result c.power.result c.parameter.result n.ensures.0 t.ensures.0 (omega (arith, t.ensures.0, small)) w c.parameter.ensures c.requires,
+      front_lt c.args.h n.result t.result c.power.result c.parameter.result (omega (arith, n.ensures.1, t.ensures.0, small)) w c.parameter.ensures c.requires,
     )

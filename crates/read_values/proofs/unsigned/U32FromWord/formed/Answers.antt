@@ -1,3 +1,4 @@
+use Rattle.std.proofs.Common.{pos}
 use Rattle.read_values.specs.Laws.Values.{plain_formed, instant_formed, instant_beyond}
 use Rattle.read_values.proofs.unsigned.U32FromWord.formed.Goals as goal
 
@@ -8,4 +9,4 @@ pub returns-then-instants : goal.returns-then-instants
 returns-then-instants c = instant_formed c.args.before (c.if-instants.ensures.instants_if c.requires.0) c.requires.1.0 c.if-beyond.false
 
 pub returns : goal.returns
-returns c = plain_formed c.args.before (c.if-instants.ensures.instants_if c.requires.0) c.requires.1
+returns c = plain_formed (pos c.args.before) (c.if-instants.ensures.instants_if c.requires.0) c.requires.1
