@@ -1,6 +1,7 @@
-use Rattle.std.proofs.Common.{◌≡◌, sym, ap, ◌∙◌, subst, refl, List, [], ◌∷◌, ◌++◌, ℤ, pos, map, get_or, drop, set, arith}
+use Rattle.std.proofs.Common.{◌≡◌, sym, ap, ◌∙◌, subst, refl, List, [], ◌∷◌, ◌++◌, ℕ, ℤ, pos, map, get_or, drop, set, arith, rules}
 use Rattle.std.proofs.lemmas.List.{length-map, map-append}
 use Rattle.reading.specs.Laws.Refusals.{handed_on}
+use Rattle.reading.specs.Stored.{Put}
 use Rattle.reading.specs.Laws.Stored.{kept_more, stored_more}
 use Rattle.read_values.specs.Reading.{Reading}
 use Rattle.read_values.specs.Laws.Reading.{read_none, read_more, read_no, read_all}
@@ -16,6 +17,10 @@ loop-i-init g c =
 pub next-requires : goal.next-requires
 next-requires g c = (c.loop-i.invariant.2.reached.within, c.requires.family)
 
+-- the value that is put is the one that was read
+put_as : {T : Type 0} {old new : List T} {i : ℕ} {v : T} → Put old i v new → (x : T) → v ≡ x → Put old i x new
+put_as {old = old} {new = new} {i = i} p x e = subst (λ (v : _). Put old i v new) e p
+
 pub loop-i-preserved : goal.loop-i-preserved
 loop-i-preserved g c =
     let number = g.T.Item.number in
@@ -24,7 +29,7 @@ loop-i-preserved g c =
     let r = l.invariant.2 in
     let x = c.in_ok-x.x in
     let k = c.kept-value.ensures in
-    let p = c.put.ensures in
+    let p = put_as c.put.ensures x (search rules) in
     let old = c.args.list.now in
     let more = map-append number xs (x ∷ []) in
     let many = sym (length-map xs number) ∙ r.count in (
